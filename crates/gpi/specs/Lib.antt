@@ -1,0 +1,2 @@
+pub mod Gpi
+pub mod Size
