@@ -4,10 +4,15 @@ use mathlib.Core.Bool.{Bool, true, false, cond, _&&_}
 use Prim.Native.Nat.{ℕ, _*_, _/_, _^_}
 use lib.Dec.{ltb}
 use lib.IntN.{ℤ, pos, _-ℤ_}
+use Rattle.pa.specs.declared.PA.{PA}
 use Rattle.pa.specs.declared.Distance.{Distance}
 use Rattle.pa.specs.declared.Distance.the-variants.{Is, Refused}
 
--- the largest multiple of n that is not above a (of 0 that is 0): `align-at`, `align-below` and `align-next` show it
+-- the address of a number
+abbrev pub pa : ℕ → PA
+pa a = record { 0 = a }
+
+-- the largest multiple of n that is not above a (of 0 that is 0): `align-below` and `align-largest` show it
 abbrev pub alignedDown : ℕ → ℕ → ℕ
 alignedDown a n = a / n * n
 

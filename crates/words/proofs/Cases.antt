@@ -1,0 +1,109 @@
+-- Worked examples of the definitions, by computation alone: the words of document 01's cases.
+-- Assumes nothing.
+use mathlib.Core.Path.{_≡_, refl}
+use mathlib.Core.Bool.{true, false}
+use Rattle.gpi.specs.declared.Gpi.the-variants.{Root, Realm, NonSecure}
+use Rattle.gpi.specs.declared.Nibble.the-variants.{Known, Reserved}
+use Rattle.gpi.specs.declared.Size.the-variants.{MB32, MB512}
+use Rattle.pa.specs.Pa.{pa}
+use Rattle.words.specs.Nibs.{nibs, word}
+use Rattle.words.specs.L0.{l0Of, blockWord, tableWordOf, tableNumber, tableValue}
+use Rattle.words.specs.L1.{l1Of, contigWord, flat, put, readAt, matchAt}
+use Rattle.words.specs.declared.L0Entry.the-variants.{Block, Table, Invalid as Neither}
+use Rattle.words.specs.declared.L1Entry.the-variants.{Contiguous, Granules, Invalid}
+use Rattle.words.specs.declared.Match.the-variants.{Same, Other, Bad}
+
+-- one opener for all of them
+unfoldable opened : Type 0
+unfolding l0Of tableWordOf l1Of nibs word
+opened = Unit {0}
+
+block : l0Of 0x91 ≡ Block NonSecure
+unfolding opened
+block = refl
+
+-- the bits that are ignored, set
+block-noise : l0Of 0xFFFF_FFFF_FFFF_FF91 ≡ Block NonSecure
+unfolding opened
+block-noise = refl
+
+block-reserved : l0Of 0x21 ≡ Neither
+unfolding opened
+block-reserved = refl
+
+table : l0Of 0x8000_0003 ≡ Table (pa 0x8000_0000)
+unfolding opened
+table = refl
+
+table-noise : l0Of 0xFFF0_0000_8000_0FF3 ≡ Table (pa 0x8000_0000)
+unfolding opened
+table-noise = refl
+
+neither : l0Of 0x0 ≡ Neither
+unfolding opened
+neither = refl
+
+-- its low two bits alone make no table
+neither-seven : l0Of 0x8000_0007 ≡ Neither
+unfolding opened
+neither-seven = refl
+
+made-block : blockWord NonSecure ≡ 0x91
+made-block = refl
+
+made-table : (tableNumber (tableWordOf 0x8000_0000) ≡ 0) × (tableValue (tableWordOf 0x8000_0000) ≡ 0x8000_0003)
+unfolding opened
+made-table = (refl, refl)
+
+unmade-table : (tableNumber (tableWordOf 0x8000_0800) ≡ 6) × (tableValue (tableWordOf 0x8000_0800) ≡ 0)
+unfolding opened
+unmade-table = (refl, refl)
+
+contiguous : l1Of 0x3A1 ≡ Contiguous Root MB512
+unfolding opened
+contiguous = refl
+
+contiguous-noise : l1Of 0xFFFF_FFFF_FFFF_FFA1 ≡ Contiguous Root MB512
+unfolding opened
+contiguous-noise = refl
+
+size-none : l1Of 0x0A1 ≡ Invalid
+unfolding opened
+size-none = refl
+
+reserved : l1Of 0x2 ≡ Invalid
+unfolding opened
+reserved = refl
+
+-- one reserved nibble, the highest, makes the lowest granule unread
+reserved-high : readAt 0x1AAA_AAAA_AAAA_AAAA 0 ≡ Reserved
+unfolding opened
+reserved-high = refl
+
+granules : l1Of 0xAAAA_AAAA_AAAA_AAAA ≡ Granules
+unfolding opened
+granules = refl
+
+-- lowest address in the low nibble
+reads : (readAt 0xAAAA_AAAA_AAAA_AAAB 0 ≡ Known Realm) × (readAt 0xAAAA_AAAA_AAAA_AAAB 15 ≡ Known Root)
+unfolding opened
+reads = (refl, refl)
+
+stored : put 0xAAAA_AAAA_AAAA_AAAA 0 11 ≡ 0xAAAA_AAAA_AAAA_AAAB
+unfolding opened
+stored = refl
+
+flattened : flat 0x3A1 ≡ 0xAAAA_AAAA_AAAA_AAAA
+unfolding opened
+flattened = refl
+
+made-contiguous : contigWord MB32 Root ≡ 0x2A1
+made-contiguous = refl
+
+matched : (matchAt 0x1A1 Root ≡ Same) × (matchAt 0xAAAA_AAAA_AAAA_AAAA Root ≡ Same)
+unfolding opened
+matched = (refl, refl)
+
+unmatched : (matchAt 0x1A1 Realm ≡ Other) × (matchAt 0xBAAA_AAAA_AAAA_AAAA Root ≡ Other) × (matchAt 0x2AAA_AAAA_AAAA_AAAB Root ≡ Bad)
+unfolding opened
+unmatched = (refl, refl, refl)

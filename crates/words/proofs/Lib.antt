@@ -1,0 +1,6 @@
+pub mod Digits
+pub mod Store
+pub mod Entries
+pub mod Packed
+pub mod Alike
+pub mod Cases

@@ -1,0 +1,54 @@
+-- `words::flat` meets its contract.
+-- Assumes nothing.
+use mathlib.Core.Path.{sym, ap, _∙_}
+use Prim.Native.Nat.{ℕ, _*_}
+use native.Mathlib.Omega.{arith}
+use Rattle.gpi.proofs.Rules.{num-lt}
+use Rattle.words.specs.L1.{flatOf}
+use Rattle.words.specs.declared.L1Entry.{L1Entry}
+use borrow.Author.Needs.{needs}
+use Rattle.words.proofs.flat.Statement.{statement}
+use Rattle.words.proofs.flat.Tie as tie
+
+l1-entry-requires : tie.Need-l1-entry-requires
+l1-entry-requires c κs = search needs
+
+enum-known-g : tie.Need-enum-known-g
+enum-known-g c = search needs
+
+number-requires : tie.Need-number-requires
+number-requires c κs = search needs
+
+mul-result : tie.Need-mul-result
+mul-result c = omega (arith, num-lt (c .before .before .g .given .0 .0))
+
+enum-told : tie.Need-enum-told
+enum-told c = search needs
+
+enum-told-2 : tie.Need-enum-told-2
+enum-told-2 c = search needs
+
+returns : tie.Need-returns
+returns c =
+    let p = c .before .before .before .before in
+    ap (λ (k : ℕ). k * 0x1111111111111111) (c .number .ensures) ∙ sym (ap (λ (e : L1Entry). flatOf e (p .before .args .w)) (sym (p .l1-entry .ensures) ∙ c .before .before .g .given .1))
+
+returns-2 : tie.Need-returns-2
+returns-2 c = let p = c .before .before in sym (ap (λ (e : L1Entry). flatOf e (p .before .args .w)) (sym (p .l1-entry .ensures) ∙ c .enum-told .given .1))
+
+returns-3 : tie.Need-returns-3
+returns-3 c = let p = c .before .before in sym (ap (λ (e : L1Entry). flatOf e (p .before .args .w)) (sym (p .l1-entry .ensures) ∙ c .enum-told2 .given .1))
+
+pub flat-spec : {M : Type 1} → statement M
+flat-spec =
+    tie.close
+    (tie.spec
+    l1-entry-requires
+    enum-known-g
+    number-requires
+    mul-result
+    enum-told
+    enum-told-2
+    returns
+    returns-2
+    returns-3)

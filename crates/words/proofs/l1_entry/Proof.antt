@@ -1,0 +1,67 @@
+-- `words::l1_entry` meets its contract: each way out has what the tests and the readers said.
+-- Assumes nothing.
+use mathlib.Core.Path.{refl, sym, ap, ap₂, _∙_}
+use Rattle.words.specs.L1.{contiguousOf, granulesOf}
+use Rattle.words.proofs.Entries.{l1-tagged, l1-untagged}
+use borrow.Author.Needs.{needs}
+use Rattle.words.proofs.l1_entry.Statement.{statement}
+use Rattle.words.proofs.l1_entry.Tie as tie
+
+gpi-of-requires : tie.Need-gpi-of-requires
+gpi-of-requires c κs = search needs
+
+enum-known-g : tie.Need-enum-known-g
+enum-known-g c = search needs
+
+size-of-requires : tie.Need-size-of-requires
+size-of-requires c κs = search needs
+
+enum-known-s : tie.Need-enum-known-s
+enum-known-s c = search needs
+
+enum-told : tie.Need-enum-told
+enum-told c = search needs
+
+enum-told-2 : tie.Need-enum-told-2
+enum-told-2 c = search needs
+
+all-valid-requires : tie.Need-all-valid-requires
+all-valid-requires c κs = search needs
+
+returns : tie.Need-returns
+returns c =
+    sym (l1-tagged _ (c .before .before .before .before .before .before .before .before .if1 .taken)
+    ∙ ap₂ contiguousOf (sym (c .before .before .before .before .before .before .before .gpi-of .ensures) ∙ c .before .before .before .before .before .g .given .1) (sym (c .before .before .before .size-of .ensures) ∙ c .before .s .given .1))
+
+returns-2 : tie.Need-returns-2
+returns-2 c =
+    sym (l1-tagged _ (c .before .before .before .before .before .before .before .if1 .taken)
+    ∙ ap₂ contiguousOf (sym (c .before .before .before .before .before .before .gpi-of .ensures) ∙ c .before .before .before .before .g .given .1) (sym (c .before .before .size-of .ensures) ∙ c .enum-told .given .1))
+
+returns-3 : tie.Need-returns-3
+returns-3 c =
+    sym (l1-tagged _ (c .before .before .before .if1 .taken)
+    ∙ ap₂ contiguousOf (sym (c .before .before .gpi-of .ensures) ∙ c .enum-told2 .given .1) refl)
+
+returns-4 : tie.Need-returns-4
+returns-4 c = sym (l1-untagged _ (c .before .before .if1 .left) ∙ ap granulesOf (sym (c .before .all-valid .ensures) ∙ c .if2 .taken))
+
+returns-5 : tie.Need-returns-5
+returns-5 c = sym (l1-untagged _ (c .before .before .if1 .left) ∙ ap granulesOf (sym (c .before .all-valid .ensures) ∙ c .if2 .left))
+
+pub l1-entry-spec : {M : Type 1} → statement M
+l1-entry-spec =
+    tie.close
+    (tie.spec
+    gpi-of-requires
+    enum-known-g
+    size-of-requires
+    enum-known-s
+    enum-told
+    enum-told-2
+    all-valid-requires
+    returns
+    returns-2
+    returns-3
+    returns-4
+    returns-5)
