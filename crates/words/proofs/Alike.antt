@@ -3,7 +3,7 @@
 use mathlib.Core.Path.{_≡_, refl, sym, ap, _∙_, subst}
 use mathlib.Core.List.{List, [], _∷_}
 use mathlib.Core.Bool.{Bool, true, false, _&&_}
-use Prim.Native.Nat.{ℕ, zero, suc, _^_, _<_}
+use Prim.Native.Nat.{ℕ, zero, suc, _%_, _^_, _<_}
 use native.Mathlib.Nat.{le-of-suc-le-suc, not-suc-le-zero}
 use native.Mathlib.Omega.{arith}
 use lib.ListN.{length, getD, set}
@@ -16,18 +16,26 @@ use Rattle.gpi.specs.Gpi.{num, gpiAt, isKnown, knownAt}
 use Rattle.gpi.proofs.Rules.{num-lt, num-at, gpi-num}
 use Rattle.gpi.proofs.Table.{and-both}
 use Rattle.words.specs.Nibs.{nib, nibs, word, all}
-use Rattle.words.specs.L1.{l1Of, readAt, readOf, contigWord, repeated, put, flat, flatOf}
+use Rattle.words.specs.L1.{l1Of, granulesOf, readAt, readOf, contigWord, repeated, put, flat, flatOf}
 use Rattle.words.specs.declared.L1Entry.{L1Entry}
 use Rattle.words.specs.declared.L1Entry.the-variants.{Contiguous, Granules, Invalid}
 use Rattle.words.proofs.Digits.{length-nibs, getD-nibs, word-nibs}
 use Rattle.words.proofs.Store.{nibs-put, put-same, put-other}
-use Rattle.words.proofs.Entries.{l1-granules, granules-known, l1-contig, l1-repeated, nib-repeated, repeated-lt}
+use Rattle.words.proofs.Entries.{l1-untagged, l1-granules, granules-known, l1-contig, l1-repeated, nib-repeated, repeated-lt}
 
 -- ---- flat
 
 -- a contiguous word of any size becomes its GPI sixteen times
 pub flat-contig : (s : Size) (g : Gpi) → flat (contigWord s g) ≡ repeated (num g)
 flat-contig s g = ap (λ (e : L1Entry). flatOf e (contigWord s g)) (l1-contig s g)
+
+-- a word whose low nibble isn't 1 stays, valid or not
+pub flat-untagged : (w : ℕ) → (w % 16 ≡ 1 → ⊥) → w ≡ flat w
+flat-untagged w h = sym (ap (λ (e : L1Entry). flatOf e w) (l1-untagged w h) ∙ go (all knownAt (nibs 16 w)))
+  where
+    go : (b : Bool) → flatOf (granulesOf b) w ≡ w
+    go true = refl
+    go false = refl
 
 -- what `flat` leaves of the entry: a valid word is one of granules, an invalid one stays invalid
 abbrev pub coarse : L1Entry → L1Entry

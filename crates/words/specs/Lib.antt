@@ -1,3 +1,4 @@
 pub mod Nibs
 pub mod L0
 pub mod L1
+pub mod Arm

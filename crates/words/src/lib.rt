@@ -1,9 +1,11 @@
 // Words of the L0 and L1 tables: what they say, and how they are made. From table.rs: the descriptors, by value.
 ghost use mathlib.Core.Path.{_≡_};
-ghost use Prim.Native.Nat.{_<_};
+ghost use Prim.Native.Nat.{_<_, _≤_};
 ghost use lib.Dec.{eqb};
 ghost use Rattle.gpi.specs.Gpi.{num, gpiAt, knownAt};
+ghost use Rattle.tables.specs.Normal.{span as spanOf};
 ghost use Rattle.words.specs.Nibs.{nib, nibs, all};
+ghost use Rattle.words.specs.Arm.{levelOf};
 ghost use Rattle.words.specs.L0.{l0Of, blockWord, tableWordOf};
 ghost use Rattle.words.specs.L1.{l1Of, readAt, matchAt, contigWord, granuleWord, gpisOf, put, orNoAccess, sameOf};
 ghost use Rattle.words.specs.L1.{flat as flatAt};
@@ -174,15 +176,21 @@ pub fn set_gpi(w: u64, i: u64, g: Gpi) -> u64
     w - (old << s) + (n << s)
 }
 
-// What granule i of a word reads.
+// What granule i of a word reads. Not by way of `l1_entry`: a lookup wants neither the size nor an entry in memory.
 pub fn read(w: u64, i: u64) -> Nibble
     requires { ⌜ i < 16 ⌝ }
     ensures { λ r. ⌜ r ≡ readAt w i ⌝ }
 {
-    match l1_entry(w) {
-        L1Entry::Contiguous(g, _) => Nibble::Known(g),
-        L1Entry::Granules => gpi_at(w, i),
-        L1Entry::Invalid => Nibble::Reserved,
+    if w % 16 == 1 {
+        if w % 1024 < 256 {
+            return Nibble::Reserved;
+        }
+        return gpi::gpi_of((w / 16) % 16);
+    }
+    if all_valid(w) {
+        gpi_at(w, i)
+    } else {
+        Nibble::Reserved
     }
 }
 
@@ -221,13 +229,29 @@ pub fn matches_gpi(w: u64, g: Gpi) -> Match
     }
 }
 
-// The granule word that reads as a word does.
+// The granule word that reads as a word does. A word whose low nibble isn't 1 is its own, valid or not: its other nibbles aren't looked at.
 pub fn flat(w: u64) -> u64
     ensures { λ r. ⌜ r ≡ flatAt w ⌝ }
 {
-    match l1_entry(w) {
-        L1Entry::Contiguous(g, _) => gpi::number(g) * 0x1111_1111_1111_1111,
-        L1Entry::Granules => w,
-        L1Entry::Invalid => w,
+    if w % 16 == 1 {
+        match l1_entry(w) {
+            L1Entry::Contiguous(g, _) => gpi::number(g) * 0x1111_1111_1111_1111,
+            L1Entry::Granules => w,
+            L1Entry::Invalid => w,
+        }
+    } else {
+        w
+    }
+}
+
+// The words of a size, where `unit` words are 2 MB.
+pub fn span(unit: usize, s: Size) -> usize
+    requires { ⌜ unit ≤ 32 ⌝ }
+    ensures { λ r. ⌜ r ≡ spanOf unit (levelOf s) ⌝ }
+{
+    match s {
+        Size::MB2 => unit,
+        Size::MB32 => 16 * unit,
+        Size::MB512 => 256 * unit,
     }
 }

@@ -6,6 +6,7 @@ use native.Mathlib.Omega.{arith}
 use Rattle.gpi.proofs.Rules.{num-lt}
 use Rattle.words.specs.L1.{flatOf}
 use Rattle.words.specs.declared.L1Entry.{L1Entry}
+use Rattle.words.proofs.Alike.{flat-untagged}
 use borrow.Author.Needs.{needs}
 use Rattle.words.proofs.flat.Statement.{statement}
 use Rattle.words.proofs.flat.Tie as tie
@@ -31,13 +32,16 @@ enum-told-2 c = search needs
 returns : tie.Need-returns
 returns c =
     let p = c .before .before .before .before in
-    ap (λ (k : ℕ). k * 0x1111111111111111) (c .number .ensures) ∙ sym (ap (λ (e : L1Entry). flatOf e (p .before .args .w)) (sym (p .l1-entry .ensures) ∙ c .before .before .g .given .1))
+    ap (λ (k : ℕ). k * 0x1111111111111111) (c .number .ensures) ∙ sym (ap (λ (e : L1Entry). flatOf e (p .before .before .args .w)) (sym (p .l1-entry .ensures) ∙ c .before .before .g .given .1))
 
 returns-2 : tie.Need-returns-2
-returns-2 c = let p = c .before .before in sym (ap (λ (e : L1Entry). flatOf e (p .before .args .w)) (sym (p .l1-entry .ensures) ∙ c .enum-told .given .1))
+returns-2 c = let p = c .before .before in sym (ap (λ (e : L1Entry). flatOf e (p .before .before .args .w)) (sym (p .l1-entry .ensures) ∙ c .enum-told .given .1))
 
 returns-3 : tie.Need-returns-3
-returns-3 c = let p = c .before .before in sym (ap (λ (e : L1Entry). flatOf e (p .before .args .w)) (sym (p .l1-entry .ensures) ∙ c .enum-told2 .given .1))
+returns-3 c = let p = c .before .before in sym (ap (λ (e : L1Entry). flatOf e (p .before .before .args .w)) (sym (p .l1-entry .ensures) ∙ c .enum-told2 .given .1))
+
+returns-4 : tie.Need-returns-4
+returns-4 c = flat-untagged _ (c .if1 .left)
 
 pub flat-spec : {M : Type 1} → statement M
 flat-spec =
@@ -51,4 +55,5 @@ flat-spec =
     enum-told-2
     returns
     returns-2
-    returns-3)
+    returns-3
+    returns-4)

@@ -1,0 +1,9 @@
+pub mod Format
+pub mod Normal
+pub mod Stores
+pub mod Events
+pub mod Set
+pub mod Mend
+pub mod Onward
+pub mod Whole
+pub mod Moves
