@@ -1,0 +1,28 @@
+-- `gpt::judge` meets its contract.
+-- Assumes nothing.
+use mathlib.Core.Path.{sym, _∙_}
+use borrow.Author.Needs.{needs}
+use Rattle.gpt.proofs.judge.Statement.{statement}
+use Rattle.gpt.proofs.judge.Tie as tie
+
+read-requires : tie.Need-read-requires
+read-requires c κs = search needs
+
+enum-known-g : tie.Need-enum-known-g
+enum-known-g c = search needs
+
+grant-requires : tie.Need-grant-requires
+grant-requires c κs = search needs
+
+enum-told : tie.Need-enum-told
+enum-told c = search needs
+
+returns : tie.Need-returns
+returns c = rw (sym (c .before .before .before .before .read .ensures) ∙ c .before .before .g .given .1) (c .grant .ensures)
+
+returns-2 : tie.Need-returns-2
+returns-2 c = rw (sym (c .before .before .read .ensures) ∙ c .enum-told .given .1)
+
+pub judge-spec : {M : Type 1} → statement M
+judge-spec =
+    tie.close (tie.spec read-requires enum-known-g grant-requires enum-told returns returns-2)

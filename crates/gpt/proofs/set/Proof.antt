@@ -1,0 +1,97 @@
+-- `gpt::set` meets its contract: at each return, the place that was found picks the definition's case.
+-- Assumes nothing.
+use mathlib.Core.Path.{_≡_, refl, sym, _∙_}
+use borrow.Author.Tests.{ltb-false}
+use Rattle.config.specs.declared.Widths.{Widths}
+use Rattle.place.specs.Sited.{Resolved}
+use Rattle.place.proofs.Promises.{resolved}
+use Rattle.gpt.specs.Set.{asking, setOf, setAt}
+use borrow.Author.Needs.{needs}
+use Rattle.gpt.proofs.set.Statement.{statement}
+use Rattle.gpt.proofs.set.Tie as tie
+
+-- the place that was found
+at-site : (c : tie.After-s) →
+    let p = c .before .before in
+    let a = p .before .before .before .before .before .args in
+    (w : Widths) × Resolved (asking (a .c) (a .arena .now) (a .base .0) (a .log .now) (a .address .0) (p .before .gpi-of .result)) (a .l0 .now) w (c .s .given .0 .0)
+at-site c = resolved _ _ _ (sym (c .before .before .resolve .ensures) ∙ c .s .given .1)
+
+gpi-of-requires : tie.Need-gpi-of-requires
+gpi-of-requires c κs = search needs
+
+resolve-requires : tie.Need-resolve-requires
+resolve-requires c κs = search needs
+
+enum-known-r : tie.Need-enum-known-r
+enum-known-r c = search needs
+
+enum-told : tie.Need-enum-told
+enum-told c = search needs
+
+enum-known-s : tie.Need-enum-known-s
+enum-known-s c = search needs
+
+enum-known-n : tie.Need-enum-known-n
+enum-known-n c = search needs
+
+set-site-requires : tie.Need-set-site-requires
+set-site-requires c κs =
+    let k = at-site (c .before .before .before .before .before .before) in
+    (k .1 .sited, ltb-false _ _ (k .1 .passed .long))
+
+enum-told-2 : tie.Need-enum-told-2
+enum-told-2 c = search needs
+
+returns : tie.Need-returns
+unfolding setOf setAt
+returns c =
+    let p = c .before .before .before in
+    rw (← p .before .gpi-of .ensures, sym (p .resolve .ensures) ∙ c .before .r .given .1) record { answer = refl; arena = refl; log = refl }
+
+returns-2 : tie.Need-returns-2
+unfolding setOf setAt
+returns-2 c =
+    let p = c .before .before in
+    rw (← p .before .gpi-of .ensures, sym (p .resolve .ensures) ∙ c .enum-told .given .1) record { answer = refl; arena = refl; log = refl }
+
+same-length : tie.Need-same-length
+same-length c = search needs
+
+same-length-2 : tie.Need-same-length-2
+same-length-2 c = search needs
+
+returns-3 : tie.Need-returns-3
+unfolding setOf setAt
+returns-3 c =
+    let x = c .before .before .before .before in
+    let n = x .before .before .before .before in
+    let s = n .before .before .before in
+    let p = s .before .before in
+    rw (← p .before .gpi-of .ensures, sym (p .resolve .ensures) ∙ s .s .given .1, n .n .given .1) (x .set-site .ensures)
+
+returns-4 : tie.Need-returns-4
+unfolding setOf setAt
+returns-4 c =
+    let s = c .before .before .before in
+    let p = s .before .before in
+    rw (← p .before .gpi-of .ensures, sym (p .resolve .ensures) ∙ s .s .given .1, c .enum-told2 .given .1) record { answer = refl; arena = refl; log = refl }
+
+pub set-spec : {M : Type 1} → statement M
+set-spec =
+    tie.close
+    (tie.spec
+    gpi-of-requires
+    resolve-requires
+    enum-known-r
+    enum-told
+    enum-known-s
+    enum-known-n
+    set-site-requires
+    enum-told-2
+    returns
+    returns-2
+    same-length
+    same-length-2
+    returns-3
+    returns-4)

@@ -1,0 +1,64 @@
+-- `gpt::set_site` meets its contract: the set of the table, made in the part of the arena that is lent.
+-- Assumes nothing.
+use mathlib.Core.Path.{_≡_}
+use native.Mathlib.Nat.{add-sub-cancel-left}
+use native.Mathlib.Omega.{arith}
+use borrow.Author.Needs.{needs}
+use Rattle.gpt.proofs.Sites.{placed, roomy, made}
+use Rattle.gpt.proofs.set_site.Statement.{statement}
+use Rattle.gpt.proofs.set_site.Tie as tie
+
+add-end : tie.Need-add-end
+add-end c = let h = c .before .before .before .pre .0 in omega (arith, h .fits)
+
+mul-set-table : tie.Need-mul-set-table
+mul-set-table c = let h = c .before .before .before .pre .0 in omega (arith, h .fits, h .arena)
+
+sub-set-table : tie.Need-sub-set-table
+sub-set-table c = search needs
+
+part-set-table-start : tie.Need-part-set-table-start
+part-set-table-start c = search needs
+
+part-set-table-end : tie.Need-part-set-table-end
+part-set-table-end c = c .before .before .before .pre .0 .fits
+
+set-table-requires : tie.Need-set-table-requires
+set-table-requires c κs =
+    let s = c .before .before .before .before .before in
+    rw (add-sub-cancel-left (s .args .s .start) (s .args .s .words)) (
+      placed (s .args .arena .now) (s .args .log .now) (s .args .address .0) (s .args .g) (s .pre .0),
+      (s .pre .0 .granule, roomy (s .args .arena .now) (s .args .log .now) (s .args .address .0) (s .args .g) (s .pre .0) (s .pre .1)),
+    )
+
+changed-by-requires : tie.Need-changed-by-requires
+changed-by-requires c κs = search needs
+
+same-length : tie.Need-same-length
+same-length c = search needs
+
+same-length-2 : tie.Need-same-length-2
+same-length-2 c = search needs
+
+returns : tie.Need-returns
+returns c =
+    let d = c .before .before .before .before .before in
+    let s = d .before .before .before .before .before .before in
+    rw (add-sub-cancel-left (s .args .s .start) (s .args .s .words))
+    (made (s .args .arena .now) (s .args .log .now) (s .args .address .0) (s .args .g) (s .pre .0)
+    (rw (add-sub-cancel-left (s .args .s .start) (s .args .s .words)) at (d .set-table .ensures)) (c .changed-by .ensures))
+
+pub set-site-spec : {M : Type 1} → statement M
+set-site-spec =
+    tie.close
+    (tie.spec
+    add-end
+    mul-set-table
+    sub-set-table
+    part-set-table-start
+    part-set-table-end
+    set-table-requires
+    changed-by-requires
+    same-length
+    same-length-2
+    returns)

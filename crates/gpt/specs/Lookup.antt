@@ -1,0 +1,58 @@
+-- What a lookup answers, for every input: document 01, "Numbers handed back" and "Words". The cut's theorem speaks of this very definition.
+-- Assumes nothing: these are definitions.
+use mathlib.Core.Bool.{cond}
+use mathlib.Core.List.{List}
+use Prim.Native.Nat.{ℕ}
+use lib.ListN.{length, getD}
+use Rattle.gpi.specs.declared.Gpi.{Gpi}
+use Rattle.gpi.specs.declared.Nibble.{Nibble}
+use Rattle.gpi.specs.declared.Nibble.the-variants.{Known, Reserved}
+use Rattle.gpi.specs.Gpi.{num}
+use Rattle.words.specs.L1.{readAt}
+use Rattle.config.specs.declared.Config.{Config}
+use Rattle.config.specs.Fields.{supportedOf}
+use Rattle.place.specs.declared.Ask.{Ask}
+use Rattle.place.specs.declared.Place.{Place}
+use Rattle.place.specs.declared.Place.the-variants.{No, Block, Table}
+use Rattle.place.specs.declared.Refusal.{Refusal}
+use Rattle.place.specs.declared.Refusal.the-variants.{InvalidL0Entry, InvalidL1Entry}
+use Rattle.place.specs.declared.Site.{Site}
+use Rattle.place.specs.Place.{refusalNumber, placeOf, seeking, tableOf}
+use Rattle.gpt.specs.declared.Looked.{Looked}
+use Rattle.gpt.specs.declared.Looked.the-variants.{Ok, Refused}
+
+-- the paper's number of each case, and its GPI's: "A refused lookup hands back no GPI", which is told as 0
+abbrev pub lookedNumber : Looked → ℕ
+lookedNumber (Ok g) = 0
+lookedNumber (Refused r) = refusalNumber r
+
+abbrev pub lookedGpi : Looked → ℕ
+lookedGpi (Ok g) = num g
+lookedGpi (Refused r) = 0
+
+-- "an unsupported GPI reads as valid and is refused at lookup", by the number of the table that it was read in
+abbrev pub granted : Config → Gpi → Refusal → Looked
+granted c g r = cond (supportedOf c g) (Ok g) (Refused r)
+
+-- 9: "entry at the address invalid; lookup: unsupported GPI". The word is valid throughout or not at all; support is asked of the one granule.
+abbrev pub judged : Config → Nibble → Looked
+judged c (Known g) = granted c g InvalidL1Entry
+judged c Reserved = Refused InvalidL1Entry
+
+-- what an arena reads at a site: the granule of the address's word in its table
+abbrev pub readIn : List ℕ → Site → Nibble
+readIn A s = readAt (getD (tableOf s A) (s .index) 0) (s .granule)
+
+-- by the place of the address; 7: "lookup on a block of unsupported GPI"
+unfoldable pub lookedAt : Config → List ℕ → Place → Looked
+lookedAt c A (No r) = Refused r
+lookedAt c A (Block g) = granted c g InvalidL0Entry
+lookedAt c A (Table s) = judged c (readIn A s)
+
+-- what a call that is no set asks: of the arena A only its length
+abbrev pub plain : Config → List ℕ → ℕ → ℕ → Ask
+plain c A b x = seeking c (length A) b x
+
+-- the lookup of the address x: configuration, lent L0 words and arena, the arena's base
+unfoldable pub lookupOf : Config → List ℕ → List ℕ → ℕ → ℕ → Looked
+lookupOf c L A b x = lookedAt c A (placeOf (plain c A b x) L)

@@ -1,0 +1,55 @@
+-- Where ranges lie: each range around the index is in the 512 MB range, and how a range is cut at the part that holds the index.
+-- Assumes nothing.
+use mathlib.Core.Path.{_≡_, refl, sym, ap, _∙_}
+use mathlib.Core.List.{List}
+use Prim.Native.Nat.{ℕ, zero, suc, _+_, _-_, _*_, _≤_, _<_, _^_}
+use native.Mathlib.Nat.{div-mul-le-self, le-trans, le-refl}
+use native.Mathlib.Omega.{arith}
+use lib.ListN.{length}
+use Rattle.gpi.specs.declared.Size.{Size}
+use Rattle.tables.specs.Normal.{span, base}
+use Rattle.tables.proofs.Ranges.{span-pos, base-lo, base-hi}
+use Rattle.words.specs.Arm.{levelOf}
+use Rattle.words.proofs.Arm.{level-lt}
+use Rattle.tables.specs.Events.{Event}
+use Rattle.stores.specs.declared.Tally.{Tally}
+use Rattle.stores.specs.Done.{Done}
+use Rattle.stores.specs.Table.{Placed}
+use Rattle.stores.proofs.Events.{kept-table}
+
+-- each level's range around i ends within the largest
+level-in : (u i l : ℕ) → l < 3 → base (span u l) i + span u l ≤ base (span u 2) i + span u 2
+unfolding span
+level-in u i zero h = le-trans (base-hi u i) (base-hi (16 * u) i)
+level-in u i (suc zero) h = base-hi (16 * u) i
+level-in u i (suc (suc zero)) h = le-refl _
+level-in u i (suc (suc (suc l))) h = absurd (omega arith)
+
+level-most : (u l : ℕ) → u ≤ 32 → l < 3 → span u l ≤ 8192
+unfolding span
+level-most u zero h k = omega arith
+level-most u (suc zero) h k = omega arith
+level-most u (suc (suc zero)) h k = omega arith
+level-most u (suc (suc (suc l))) h k = absurd (omega arith)
+
+-- where the range of n words around i lies
+pub record Lies (t : List ℕ) (i n : ℕ) : Type 0 where
+  pub pos : 0 < n
+  pub most : n ≤ 8192
+  pub low : base n i ≤ i
+  pub inside : base n i + n ≤ length t
+
+pub lies : {t : List ℕ} {i u : ℕ} → Placed t i u → (l n : ℕ) → l < 3 → n ≡ span u l → Lies t i n
+lies {t} {i} {u} p l n h e =
+    rw e record {
+      pos = span-pos u l (p .least);
+      most = level-most u l (p .most) h;
+      low = div-mul-le-self i (span u l);
+      inside = omega (arith, level-in u i l h, p .inside);
+    }
+
+-- events leave the table as long as it was
+pub still : {o i u : ℕ} {es : List Event} {t t′ l l′ : List ℕ} {a b : Tally} → Done o es t t′ l l′ a b → Placed t i u → Placed t′ i u
+still d p =
+    let e = kept-table d in
+    record { least = p .least; most = p .most; index = omega (arith, e, p .index); inside = omega (arith, e, p .inside); small = omega (arith, e, p .small) }

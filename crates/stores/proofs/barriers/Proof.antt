@@ -1,0 +1,62 @@
+-- `stores::barriers` meets its contract: three records, and no store.
+-- Assumes nothing.
+use mathlib.Core.Path.{refl, sym}
+use Prim.Native.Nat.{ℕ, _+_}
+use native.Mathlib.Nat.{add-zero}
+use native.Mathlib.Omega.{arith}
+use Rattle.tables.specs.Stores.{apply}
+use Rattle.tables.specs.Events.{dsb-oshst, tlbi, dsb-osh}
+use Rattle.stores.specs.declared.Tally.{Tally}
+use Rattle.stores.proofs.Events.{one, after}
+use borrow.Author.Needs.{needs}
+use Rattle.stores.proofs.barriers.Statement.{statement}
+use Rattle.stores.proofs.barriers.Tie as tie
+
+log-record-requires : tie.Need-log-record-requires
+log-record-requires c κs = search needs
+
+add-log-record : tie.Need-add-log-record
+add-log-record c = search needs
+
+log-record-requires-2 : tie.Need-log-record-requires-2
+log-record-requires-2 c κs = search needs
+
+add-log-record-2 : tie.Need-add-log-record-2
+add-log-record-2 c = search needs
+
+log-record-requires-3 : tie.Need-log-record-requires-3
+log-record-requires-3 c κs = search needs
+
+add-t11 : tie.Need-add-t11
+add-t11 c = search needs
+
+same-length : tie.Need-same-length
+same-length c = search needs
+
+-- one record more
+abbrev more : Tally → ℕ → Tally
+more t n = record { records = t .records + n; stores = t .stores }
+
+returns : tie.Need-returns
+unfolding apply
+returns c o table =
+    let third = c .before .before in
+    let second = third .before .before .before .before in
+    let first = second .before .before .before .before in
+    let t = first .before .before .before .args .t in
+    after (one o dsb-oshst _ _ _ _ t (more t 1) tt refl (first .log-record .ensures) refl (sym (add-zero _)))
+    (after (one o (tlbi _ _) _ _ _ _ (more t 1) (more t 2) tt refl (second .log-record2 .ensures) (omega arith) (sym (add-zero _)))
+    (one o dsb-osh _ _ _ _ (more t 2) (more t 3) tt refl (third .log-record3 .ensures) (omega arith) (sym (add-zero _))))
+
+pub barriers-spec : {M : Type 1} → statement M
+barriers-spec =
+    tie.close
+    (tie.spec
+    log-record-requires
+    add-log-record
+    log-record-requires-2
+    add-log-record-2
+    log-record-requires-3
+    add-t11
+    same-length
+    returns)
