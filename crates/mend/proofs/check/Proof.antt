@@ -1,0 +1,100 @@
+-- `mend::check` meets its contract: by the place of the address; the L1 table is that part of the arena.
+-- Assumes nothing.
+use mathlib.Core.Path.{_≡_, sym, _∙_}
+use native.Mathlib.Nat.{add-sub-cancel-left}
+use native.Mathlib.Omega.{arith}
+use lib.ListN.{length}
+use Rattle.place.specs.declared.Place.the-variants.{Table}
+use Rattle.place.specs.Place.{placeOf}
+use Rattle.place.specs.Sited.{Sited}
+use Rattle.gpt.specs.Lookup.{plain}
+use Rattle.mend.proofs.Sites.{site-regions, sited, check-refused, check-block, check-in}
+use borrow.Author.Needs.{needs}
+use Rattle.mend.proofs.check.Statement.{statement}
+use Rattle.mend.proofs.check.Tie as tie
+
+-- the place, and what one in a table promises
+there : (c : tie.After-s)
+    → let a = c .before .before .before .before .before .args in
+    placeOf (plain (a .c) (a .arena .now) (a .base .0) (a .address .0)) (a .l0 .now) ≡ Table (c .s .given .0 .0)
+there c = sym (c .before .before .resolve .ensures) ∙ c .s .given .1
+
+at-site : (c : tie.After-s) → Sited (length (c .before .before .before .before .before .args .arena .now)) (c .s .given .0 .0)
+at-site c =
+    let a = c .before .before .before .before .before .args in
+    sited (a .c) (a .l0 .now) (a .arena .now) (a .base .0) (a .address .0) _ (there c)
+
+resolve-requires : tie.Need-resolve-requires
+resolve-requires c κs = search needs
+
+enum-known-r : tie.Need-enum-known-r
+enum-known-r c = search needs
+
+enum-told : tie.Need-enum-told
+enum-told c = search needs
+
+enum-known-s : tie.Need-enum-known-s
+enum-known-s c = search needs
+
+add-end : tie.Need-add-end
+add-end c = let s = at-site (c .before .before) in omega (arith, s .fits, s .arena)
+
+mul-check-table : tie.Need-mul-check-table
+mul-check-table c = let s = at-site (c .before .before) in omega (arith, s .fits, s .arena)
+
+sub-check-table : tie.Need-sub-check-table
+sub-check-table c = search needs
+
+part-check-table-start : tie.Need-part-check-table-start
+part-check-table-start c = search needs
+
+part-check-table-end : tie.Need-part-check-table-end
+part-check-table-end c = at-site (c .before .before) .fits
+
+check-table-requires : tie.Need-check-table-requires
+check-table-requires c κs =
+    let s = c .before .before .before in
+    let a = s .before .before .before .before .before .args in
+    rw (add-sub-cancel-left _ _) (site-regions (a .arena .now) _ (at-site s))
+
+verdict-of-requires : tie.Need-verdict-of-requires
+verdict-of-requires c κs = search needs
+
+returns : tie.Need-returns
+returns c =
+    let p = c .before .before .before in
+    let a = p .before .before .before .args in
+    check-refused (a .c) (a .l0 .now) (a .arena .now) (a .base .0) (a .address .0) _ (sym (p .resolve .ensures) ∙ c .before .r .given .1)
+
+returns-2 : tie.Need-returns-2
+returns-2 c =
+    let p = c .before .before in
+    let a = p .before .before .before .args in
+    check-block (a .c) (a .l0 .now) (a .arena .now) (a .base .0) (a .address .0) _ (sym (p .resolve .ensures) ∙ c .enum-told .given .1)
+
+returns-3 : tie.Need-returns-3
+returns-3 c =
+    let k = c .before in
+    let s = k .before .before .before .before in
+    let a = s .before .before .before .before .before .args in
+    check-in (a .c) (a .l0 .now) (a .arena .now) (a .base .0) (a .address .0) _ (there s)
+    (rw (add-sub-cancel-left _ _) at (k .check-table .ensures)) (c .verdict-of .ensures)
+
+pub check-spec : {M : Type 1} → statement M
+check-spec =
+    tie.close
+    (tie.spec
+    resolve-requires
+    enum-known-r
+    enum-told
+    enum-known-s
+    add-end
+    mul-check-table
+    sub-check-table
+    part-check-table-start
+    part-check-table-end
+    check-table-requires
+    verdict-of-requires
+    returns
+    returns-2
+    returns-3)
