@@ -1,0 +1,40 @@
+-- The starred cases, computed.
+-- Assumes nothing.
+use mathlib.Core.Path.{refl}
+use Rattle.tables.specs.Format.{reads}
+use Rattle.tables.specs.Normal.{span}
+use Rattle.tables.specs.Stores.{apply, fill}
+use Rattle.tables.specs.Events.{stores, count, records, logged}
+use Rattle.tables.specs.Set.{fillEvent, shatter, breaks, broken, brokenBarriers, newWord, changed, scan, climb, fusing, fused, storeEvents, setEvents}
+use Rattle.words.specs.Nibs.{nibs, word}
+use Rattle.words.specs.L0.{l0Of}
+use Rattle.words.specs.L1.{l1Of}
+use Rattle.config.specs.Fields.{configuredOf}
+use Rattle.place.specs.Place.{arenaBad, outside, siteOf, located, placeOf}
+use Rattle.gpt.specs.Lookup.{lookedAt, lookupOf}
+use Rattle.gpt.specs.Set.{siteSet, setAt, setOf}
+use Rattle.promises.specs.Cases.{Starred}
+use Prim.Native.Nat.{ℕ}
+
+-- what must open for the definitions to be computed
+unfoldable pub opened : ℕ
+unfolding reads span apply fill stores count records logged fillEvent shatter breaks broken brokenBarriers newWord changed scan climb fusing fused storeEvents setEvents nibs word l0Of l1Of configuredOf arenaBad outside siteOf located placeOf lookedAt lookupOf siteSet setAt setOf
+opened = 0
+
+pub starred : Starred
+unfolding opened
+starred = record {
+  c1 = refl;
+  c2 = refl;
+  c3 = refl;
+  c4 = refl;
+  c5 = refl;
+  c6 = refl;
+  c6-off = refl;
+  c7 = record { number = refl; stores = refl; records = refl; arena = refl; log = refl };
+  c8 = record { number = refl; stores = refl; records = refl; arena = refl; log = refl };
+  c9 = record { number = refl; stores = refl; records = refl; arena = refl; log = refl };
+  c9-realm = record { number = refl; stores = refl; records = refl; arena = refl; log = refl };
+  c10 = record { number = refl; stores = refl; records = refl; arena = refl; log = refl };
+  c11 = record { number = refl; stores = refl; records = refl; arena = refl; log = refl };
+}
