@@ -1,0 +1,74 @@
+-- The C interface's numbers: docs/ABI.md. What comes with an answer is packed with it into one number.
+-- Assumes nothing: these are definitions.
+use mathlib.Core.Path.{_≡_}
+use mathlib.Core.Bool.{Bool, cond}
+use mathlib.Core.List.{List}
+use Prim.Native.Nat.{ℕ, _+_, _*_, _/_, _%_, _≤_}
+use lib.Dec.{eqb}
+use Rattle.config.specs.declared.Config.{Config}
+use Rattle.gpt.specs.declared.Looked.{Looked}
+use Rattle.gpt.specs.Lookup.{lookedNumber, lookedGpi}
+use Rattle.gpt.specs.declared.Changed.{Changed}
+use Rattle.gpt.specs.Set.{Outcome, changedNumber, changedRecords, changedStores}
+use Rattle.mend.specs.declared.Mended.{Mended}
+use Rattle.mend.specs.declared.Checked.{Checked}
+use Rattle.mend.specs.Outcome.{mendedNumber, mendedStores, checkedNumber, checkedYes}
+use Rattle.mend.specs.Outcome.{Outcome as MendOutcome}
+
+-- the flag of weight d in the flags byte
+abbrev pub bitOf : ℕ → ℕ → Bool
+bitOf f d = eqb (f / d % 2) 1
+
+-- "flags (bits 0 to 7: GPC, SA, NSP, NA6, NA7, NSO, GDI, GPC2)"
+abbrev pub configOf : ℕ → ℕ → ℕ → ℕ → Config
+configOf p g l f =
+    record {
+      pps = p;
+      pgs = g;
+      l0gptsz = l;
+      gpc = bitOf f 1;
+      sa = bitOf f 2;
+      nsp = bitOf f 4;
+      na6 = bitOf f 8;
+      na7 = bitOf f 16;
+      nso = bitOf f 32;
+      gdi = bitOf f 64;
+      gpc2 = bitOf f 128;
+    }
+
+-- answer + 2^8 * gpi
+unfoldable pub lookedPacked : Looked → ℕ
+lookedPacked s = lookedNumber s + 256 * lookedGpi s
+
+-- answer + 2^8 * records + 2^16 * stores
+unfoldable pub changedPacked : Changed → ℕ
+changedPacked a = changedNumber a + 256 * changedRecords a + 65536 * changedStores a
+
+-- answer + 2^16 * stores
+unfoldable pub mendedPacked : Mended → ℕ
+mendedPacked m = mendedNumber m + 65536 * mendedStores m
+
+-- answer + 2^8 * (1 if normal; 0 if not, or refused)
+unfoldable pub checkedPacked : Checked → ℕ
+checkedPacked k = checkedNumber k + 256 * cond (checkedYes k) 1 0
+
+-- what a set hands back and leaves
+pub record SetLeft (o : Outcome) (r : ℕ) (A L : List ℕ) : Type 0 where
+  pub answer : r ≡ changedPacked (o .answer)
+  pub arena : A ≡ o .arena
+  pub log : L ≡ o .log
+
+-- what a mend hands back and leaves
+pub record MendLeft (o : MendOutcome) (r : ℕ) (A : List ℕ) : Type 0 where
+  pub answer : r ≡ mendedPacked (o .answer)
+  pub arena : A ≡ o .arena
+
+-- each part within its place, so that none runs into the next (`Few.set-small` has it of every set)
+pub record Small (r : Changed) : Type 0 where
+  pub number : changedNumber r ≤ 10
+  pub records : changedRecords r ≤ 13
+  pub stores : changedStores r ≤ 16385
+
+-- the same of a mend (`Few.mend-small`): at most the words of the largest table
+abbrev pub Few : Mended → Type 0
+Few m = mendedStores m ≤ 8388608
