@@ -1,0 +1,63 @@
+-- The dump's image as it is written: the bytes of a content, from document 01's list of fields. `proofs/RoundTrip` and `proofs/Only` show that
+-- this and the reader are one format: what is written is read back, and only what is written reads as whole.
+-- Assumes nothing: these are definitions.
+use mathlib.Core.Bool.{Bool, cond}
+use mathlib.Core.List.{List, [], _∷_, _++_}
+use Prim.Native.Nat.{ℕ, zero, suc, _+_, _*_, _/_, _%_, _^_, _≤_, _<_}
+use lib.ListN.{length}
+use Rattle.config.specs.declared.Config.{Config}
+
+-- what an image is of
+pub record Content : Type 0 where
+  pub config : Config
+  pub base : ℕ
+  pub l0 : List ℕ
+  pub arena : List ℕ
+
+-- each is below the bound
+abbrev pub Below : ℕ → List ℕ → Type 0
+Below n [] = Unit {0}
+Below n (x ∷ xs) = (x < n) × Below n xs
+
+-- that it can be written: fields are bytes, words are of 64 bits, and "At most 64 L0 and 4,096 arena words"
+pub record Lawful (x : Content) : Type 0 where
+  pub pps : x .config .pps < 256
+  pub pgs : x .config .pgs < 256
+  pub l0gptsz : x .config .l0gptsz < 256
+  pub base : x .base < 2 ^ 64
+  pub l0-most : length (x .l0) ≤ 64
+  pub arena-most : length (x .arena) ≤ 4096
+  pub l0 : Below (2 ^ 64) (x .l0)
+  pub arena : Below (2 ^ 64) (x .arena)
+
+-- "All big-endian": a number as n bytes
+unfoldable pub bytes : ℕ → ℕ → List ℕ
+bytes zero w = []
+bytes (suc n) w = bytes n (w / 256) ++ (w % 256 ∷ [])
+
+unfoldable pub wordsBytes : List ℕ → List ℕ
+wordsBytes [] = []
+wordsBytes (w ∷ ws) = bytes 8 w ++ wordsBytes ws
+
+-- "flags (bits 0 to 7: GPC, SA, NSP, NA6, NA7, NSO, GDI, GPC2)"
+abbrev pub bit : Bool → ℕ → ℕ
+bit b k = cond b (2 ^ k) 0
+
+abbrev pub flagsOf : Config → ℕ
+flagsOf c =
+    bit (c .gpc) 0 + bit (c .sa) 1 + bit (c .nsp) 2 + bit (c .na6) 3 + bit (c .na7) 4 + bit (c .nso) 5 + bit (c .gdi) 6 + bit (c .gpc2) 7
+
+-- "8 x both counts"
+abbrev pub counted : Content → ℕ
+counted x = 8 * (length (x .l0) + length (x .arena))
+
+-- "version byte 1; 4-byte length of the rest; then PPS, PGS, L0GPTSZ, flags, arena base (8), L0 count (4), arena count (4), L0 words, arena
+-- words"; "Length is 20 + 8 x both counts"
+unfoldable pub imageOf : Content → List ℕ
+imageOf x =
+    (1 ∷ []) ++ (bytes 4 (20 + counted x)
+    ++ ((x .config .pps ∷ x .config .pgs ∷ x .config .l0gptsz ∷ flagsOf (x .config) ∷ [])
+    ++ (bytes 8 (x .base)
+    ++ (bytes 4 (length (x .l0))
+    ++ (bytes 4 (length (x .arena))
+    ++ (wordsBytes (x .l0) ++ wordsBytes (x .arena)))))))

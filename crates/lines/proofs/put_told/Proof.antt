@@ -1,0 +1,29 @@
+-- `lines::put_told` meets its contract.
+-- Assumes nothing.
+use native.Mathlib.Omega.{arith}
+use lib.ListN.{length-append}
+use Rattle.lines.specs.Lines.{dec, told}
+use Rattle.lines.proofs.Bytes.{then-put, put-length, length-told}
+use borrow.Author.Needs.{needs}
+use Rattle.lines.proofs.put_told.Statement.{statement}
+use Rattle.lines.proofs.put_told.Tie as tie
+
+put-numbered-requires : tie.Need-put-numbered-requires
+put-numbered-requires c κs = let s = c .before .before .before in let e = length-told (s .args .what .now) (s .args .n) in let h = s .pre in omega arith
+
+slice-aggregate-put : tie.Need-slice-aggregate-put
+slice-aggregate-put c = search needs
+
+put-requires : tie.Need-put-requires
+put-requires c κs = let s = c .before .before .before .before .before .before .before .before in let e = length-told (s .args .what .now) (s .args .n) in let h = s .pre in let n1 = c .before .before .before .before .put-numbered .ensures .place in let k = put-length (c .before .before .before .before .put-numbered .ensures) in let m = length-append (s .args .what .now) (dec (s .args .n)) in omega arith
+
+same-length : tie.Need-same-length
+same-length c = search needs
+
+returns : tie.Need-returns
+unfolding told
+returns c = then-put (c .before .before .before .before .before .before .before .put-numbered .ensures) (c .before .before .put .ensures)
+
+pub put-told-spec : {M : Type 1} → statement M
+put-told-spec =
+    tie.close (tie.spec put-numbered-requires slice-aggregate-put put-requires same-length returns)

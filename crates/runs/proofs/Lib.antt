@@ -1,0 +1,4 @@
+pub mod Stretch
+pub mod Near
+pub mod Walk
+pub mod Answers

@@ -1,0 +1,4 @@
+pub mod Walk
+pub mod Steps
+pub mod Stream
+pub mod Opened

@@ -1,0 +1,34 @@
+-- `text::told_chunk` meets its contract.
+-- Assumes nothing.
+use mathlib.Core.Path.{refl}
+use native.Mathlib.Omega.{arith}
+use Rattle.lines.specs.Lines.{told}
+use Rattle.text.specs.Chunks.{step, oneStep}
+use Rattle.text.proofs.Walk.{chunk-end, chunk-full, chunk-more}
+use Rattle.text.proofs.Steps.{one-here, one-end}
+use borrow.Author.Needs.{needs}
+use Rattle.text.proofs.told_chunk.Statement.{statement}
+use Rattle.text.proofs.told_chunk.Tie as tie
+
+returns : tie.Need-returns
+returns c = chunk-end _ _ _ _ (one-end _ _ (c .if1 .taken))
+
+told-len-requires : tie.Need-told-len-requires
+told-len-requires c κs = search needs
+
+returns-2 : tie.Need-returns-2
+returns-2 c = let a = c .before .before .before .before .before .args in let e = c .before .told-len .ensures in chunk-full _ _ _ _ (step (told (a .what .now) (a .n)) 1) _ (one-here _ _ (c .before .before .if1 .left)) (omega arith)
+
+put-told-requires : tie.Need-put-told-requires
+put-told-requires c κs = search needs
+
+same-length : tie.Need-same-length
+same-length c = search needs
+
+returns-3 : tie.Need-returns-3
+returns-3 c = let a = c .before .before .before .before .before .before .before .before .before .args in let e = c .before .before .before .before .before .told-len .ensures in let b = told (a .what .now) (a .n) in chunk-more (oneStep b) (a .at) 0 (a .out .now) (step b 1) (one-here b _ (c .before .before .before .before .before .before .if1 .left)) (omega arith) (omega arith) (c .before .before .put-told .ensures) (chunk-end (oneStep b) 1 _ _ refl)
+
+pub told-chunk-spec : {M : Type 1} → statement M
+told-chunk-spec =
+    tie.close
+    (tie.spec returns told-len-requires returns-2 put-told-requires same-length returns-3)

@@ -1,0 +1,41 @@
+-- `view::word_at` meets its contract.
+-- Assumes nothing.
+use mathlib.Core.Path.{sym, _∙_}
+use native.Mathlib.Omega.{arith}
+use Rattle.view.proofs.Spots.{in-table}
+use borrow.Author.Needs.{needs}
+use Rattle.view.proofs.word_at.Statement.{statement}
+use Rattle.view.proofs.word_at.Tie as tie
+
+spot-at-requires : tie.Need-spot-at-requires
+spot-at-requires c κs = search needs
+
+enum-known-i : tie.Need-enum-known-i
+enum-known-i c = search needs
+
+mul-t8 : tie.Need-mul-t8
+mul-t8 c = let h = in-table _ _ _ _ _ (sym (c .before .before .before .spot-at .ensures) ∙ c .before .i .given .1) in omega arith
+
+shared-slice-read-t10 : tie.Need-shared-slice-read-t10
+shared-slice-read-t10 c = in-table _ _ _ _ _ (sym (c .before .before .before .before .spot-at .ensures) ∙ c .before .before .i .given .1) .0
+
+enum-told : tie.Need-enum-told
+enum-told c = search needs
+
+returns : tie.Need-returns
+returns c = rw (sym (c .before .before .before .before .spot-at .ensures) ∙ c .before .before .i .given .1)
+
+returns-2 : tie.Need-returns-2
+returns-2 c = rw (sym (c .before .before .spot-at .ensures) ∙ c .enum-told .given .1)
+
+pub word-at-spec : {M : Type 1} → statement M
+word-at-spec =
+    tie.close
+    (tie.spec
+    spot-at-requires
+    enum-known-i
+    mul-t8
+    shared-slice-read-t10
+    enum-told
+    returns
+    returns-2)
