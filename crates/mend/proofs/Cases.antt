@@ -18,7 +18,7 @@ use Rattle.config.specs.declared.Config.{Config}
 use Rattle.config.specs.Fields.{configuredOf}
 use Rattle.place.specs.Place.{arenaBad, outside, siteOf, located, placeOf}
 use Rattle.mend.specs.declared.Mended.{Mended}
-use Rattle.mend.specs.Normal.{isNormal}
+use Rattle.normal.specs.Normal.{isNormal}
 use Rattle.mend.specs.Outcome.{mendedNumber, mendedStores, checkedNumber, checkedYes, mendedAt, mendOf, checkedAt, checkOf}
 
 -- what must open for a mend and a check to be computed

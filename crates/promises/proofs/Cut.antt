@@ -46,10 +46,10 @@ use Rattle.place.proofs.Granules.{same-granule, same-indices}
 use Rattle.gpt.specs.declared.Looked.the-variants.{Ok as Looks}
 use Rattle.gpt.specs.Lookup.{lookupOf}
 use Rattle.gpt.specs.Set.{Outcome, changedStores, siteEvents, asking}
-use Rattle.mend.specs.declared.Checked.the-variants.{Yes, No}
-use Rattle.mend.specs.Normal.{isNormal}
+use Rattle.mend.specs.declared.Checked.the-variants.{Yes}
+use Rattle.normal.specs.Normal.{isNormal}
 use Rattle.mend.specs.Outcome.{withTable, verdict, checkOf}
-use Rattle.mend.proofs.Yes.{normal-yes, yes-the-one}
+use Rattle.normal.proofs.Yes.{normal-yes, yes-the-one}
 use Rattle.promises.specs.Demand3.{Ready, cutArena, storesBefore, granuleStoreAfter, granulesAfter, Mend, Names, AllName, Mending}
 use Rattle.promises.proofs.Lead.{log-lead}
 use Rattle.promises.proofs.Read.{nibbleOf, read-is}

@@ -1,6 +1,6 @@
 -- What a set that answers 0 or 10 did: its address lies in a table, its GPI is known, the entry is valid, and its events happened.
 -- Assumes nothing.
-use mathlib.Core.Path.{_≡_, refl, ap}
+use mathlib.Core.Path.{_≡_, refl}
 use mathlib.Core.Bool.{Bool, true, false}
 use mathlib.Core.List.{List}
 use Prim.Native.Nat.{ℕ}
@@ -23,7 +23,7 @@ use Rattle.place.specs.declared.Refusal.{Refusal}
 use Rattle.place.specs.declared.Refusal.the-variants.{InvalidConfiguration, GptNotInitialized, FewL0Words, BadArena, ShortLog, InvalidRequest, InvalidL0Entry, OutsideArena, InvalidL1Entry}
 use Rattle.place.specs.Place.{refusalNumber, placeOf, tableOf}
 use Rattle.stores.specs.declared.Tally.{Tally}
-use Rattle.stores.specs.Table.{answerOf, tallyOf}
+use Rattle.sets.specs.Table.{answerOf, tallyOf}
 use Rattle.gpt.specs.Set.{Outcome, changedNumber, changedRecords, changedStores, changedBy, siteEvents, siteSet, setAt, asking, setOf}
 use Rattle.promises.specs.Demand3.{Answers0or10, answers-0, answers-10}
 

@@ -5,10 +5,9 @@ use mathlib.Core.Path.{_≡_, refl, sym, ap, ap₂, _∙_}
 use mathlib.Core.Logic.{_⊎_, inl, inr}
 use mathlib.Core.Bool.{Bool, true, false}
 use mathlib.Core.List.{List}
-use Prim.Native.Nat.{ℕ, _≤_, _<_}
+use Prim.Native.Nat.{ℕ, _≤_}
 use native.Mathlib.Omega.{arith}
 use borrow.Author.Tests.{ltb-false}
-use lib.Dec.{lit<}
 use lib.ListN.{length}
 use Rattle.gpi.specs.declared.Gpi.{Gpi}
 use Rattle.gpi.specs.declared.Nibble.{Nibble}
@@ -27,11 +26,11 @@ use Rattle.words.specs.Arm.{arm}
 use Rattle.words.proofs.Arm.{arm-laws}
 use Rattle.config.specs.declared.Configured.the-variants.{Ok as Configured}
 use Rattle.config.specs.Fields.{configuredOf, supportedOf}
-use Rattle.stores.specs.Table.{answerOf, tallyOf}
+use Rattle.sets.specs.Table.{answerOf, tallyOf}
 use Rattle.place.specs.declared.Place.{Place}
 use Rattle.place.specs.declared.Place.the-variants.{No, Block, Table}
 use Rattle.place.specs.declared.Refusal.{Refusal}
-use Rattle.place.specs.declared.Refusal.the-variants.{InvalidConfiguration, GptNotInitialized, FewL0Words, BadArena, ShortLog, InvalidRequest, InvalidL0Entry, OutsideArena, InvalidL1Entry}
+use Rattle.place.specs.declared.Refusal.the-variants.{InvalidRequest, InvalidL1Entry}
 use Rattle.place.specs.declared.Site.{Site}
 use Rattle.place.proofs.Numbers.{refusal-number}
 use Rattle.place.specs.Place.{refusalNumber, placeOf, siteOf, tableOf}

@@ -6,3 +6,4 @@ pub mod Alike
 pub mod Cases
 pub mod Arm
 pub mod Tables
+pub mod Sizes
