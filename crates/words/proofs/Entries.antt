@@ -21,13 +21,13 @@ use Rattle.gpi.specs.Size.{sizeNum, sizeAt}
 use Rattle.gpi.proofs.Rules.{num-lt, gpi-num, size-num, size-lt}
 use Rattle.gpi.proofs.Table.{and-both}
 use Rattle.pa.specs.Pa.{pa}
-use Rattle.words.specs.Nibs.{nib, nibs, all}
+use Rattle.nibbles.specs.Nibs.{nib, nibs, all}
 use Rattle.words.specs.L0.{l0Of, blockOf, blockWord, tableWordOf}
 use Rattle.words.specs.L1.{l1Of, contiguousOf, granulesOf, contigWord, repeated}
 use Rattle.words.specs.declared.L0Entry.the-variants.{Block, Table}
 use Rattle.words.specs.declared.TableWord.the-variants.{Word, Refused}
 use Rattle.words.specs.declared.L1Entry.the-variants.{Contiguous, Granules, Invalid}
-use Rattle.words.proofs.Digits.{repeat16, nibs-replicate, getD-nibs, all-replicate, walk-miss}
+use Rattle.nibbles.proofs.Digits.{repeat16, nibs-replicate, getD-nibs, all-replicate, walk-miss}
 
 -- ---- L1: by the low nibble
 
