@@ -199,14 +199,28 @@ fn same(yes: bool) -> Match
     if yes { Match::Same } else { Match::Other }
 }
 
-// Whether a word reads this GPI throughout.
+// Whether a word reads this GPI throughout. Not by way of `l1_entry`: a scan wants neither the size nor an entry in memory, and asks the table of
+// nibbles only where the GPIs differ.
 pub fn matches_gpi(w: u64, g: Gpi) -> Match
     ensures { λ r. ⌜ r ≡ matchAt w g ⌝ }
 {
-    match l1_entry(w) {
-        L1Entry::Contiguous(h, _) => same(gpi::number(h) == gpi::number(g)),
-        L1Entry::Granules => same(all_gpi(w, g)),
-        L1Entry::Invalid => Match::Bad,
+    if w % 16 == 1 {
+        if w % 1024 < 256 {
+            return Match::Bad;
+        }
+        let n = (w / 16) % 16;
+        if n == gpi::number(g) {
+            return Match::Same;
+        }
+        if gpi::is_valid(n) {
+            return Match::Other;
+        }
+        return Match::Bad;
+    }
+    if nibbles::all_valid(w) {
+        same(all_gpi(w, g))
+    } else {
+        Match::Bad
     }
 }
 
