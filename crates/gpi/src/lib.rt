@@ -39,7 +39,7 @@ pub enum SizeCode {
     None,
 }
 
-// The nibbles that stand for a GPI. A use of a constant array builds it anew: a loop copies it once before it starts.
+// The nibbles that stand for a GPI. Each use of a constant array builds it anew, by three stores.
 pub const VALID: [bool; 16] = [
     true,
     false,
@@ -110,7 +110,7 @@ fn gpi_named(n: u64) -> Gpi
     }
 }
 
-// The GPI of a number. The table says whether there is one.
+// The GPI of a number: the table says whether there is one.
 pub fn gpi_of(n: u64) -> Nibble
     ensures { λ r. ⌜ r ≡ gpiAt n ⌝ }
 {

@@ -1,7 +1,7 @@
 -- One test by masks is the table's rule at each nibble of a word: a bit operation works on each nibble apart.
 -- Assumes nothing.
-use mathlib.Core.Path.{_≡_, refl, sym, ap, ap₂, _∙_}
-use mathlib.Core.Bool.{Bool, true, false, _&&_}
+use mathlib.Core.Path.{_≡_, refl, ap, ap₂, _∙_}
+use mathlib.Core.Bool.{_&&_}
 use Prim.Native.Nat.{ℕ, zero, suc, _+_, _*_, _/_, _%_, _<_}
 use native.Mathlib.Omega.{arith}
 use borrow.Author.Tests.{ne-eqb}
@@ -34,6 +34,7 @@ module _ (m w : ℕ) where
   abbrev more : ℕ
   more = reserved (1 + m * 16) w (w / 2) (w / 4) (w / 8)
 
+  -- the seven lowest bits are all that the low nibble is judged by
   a : w % 16 ≡ w % 128 % 16
   a = omega arith
 

@@ -69,15 +69,6 @@ returns-4 c =
     let a = p .before .before .args in
     bad (a .w) (a .g) (p .before .if1 .taken) (p .if2 .left) (sym (c .before .is-valid .ensures) ∙ c .if4 .left)
 
-all-valid-requires : tie.Need-all-valid-requires
-all-valid-requires c κs = search needs
-
-all-gpi-requires : tie.Need-all-gpi-requires
-all-gpi-requires c κs = search needs
-
-same-requires : tie.Need-same-requires
-same-requires c κs = search needs
-
 returns-5 : tie.Need-returns-5
 returns-5 c =
     let p = c .before .before in
@@ -97,8 +88,8 @@ matches-gpi-spec =
     is-valid-requires
     returns-3
     returns-4
-    all-valid-requires
-    all-gpi-requires
-    same-requires
+    (λ c κs. search needs)
+    (λ c κs. search needs)
+    (λ c κs. search needs)
     returns-5
     returns-6)
