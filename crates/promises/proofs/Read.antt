@@ -20,7 +20,7 @@ use Rattle.tables.specs.Normal.{at, span}
 use Rattle.tables.specs.Set.{Agrees}
 use Rattle.words.specs.declared.L1Entry.{L1Entry}
 use Rattle.words.specs.declared.L1Entry.the-variants.{Contiguous, Granules, Invalid}
-use Rattle.words.specs.Nibs.{nib}
+use Rattle.nibbles.specs.Nibs.{nib}
 use Rattle.words.specs.L1.{l1Of, readAt, readOf, flat, flatOf, repeated}
 use Rattle.words.specs.Arm.{arm, validOf, sizeOf, levelOf}
 use Rattle.words.proofs.Entries.{nib-repeated, l1-repeated, repeated-lt}

@@ -21,7 +21,7 @@ use Rattle.words.specs.declared.L0Entry.{L0Entry}
 use Rattle.words.specs.declared.L1Entry.{L1Entry}
 use Rattle.words.specs.declared.TableWord.{TableWord}
 use Rattle.words.specs.declared.Match.{Match}
-use Rattle.words.specs.Nibs.{nibs, all}
+use Rattle.nibbles.specs.Nibs.{nibs, all}
 use Rattle.words.specs.L0.{l0Of, blockWord, tableWordOf}
 use Rattle.words.specs.L1.{l1Of, matchAt, contigWord, granuleWord, gpisOf, flat}
 use Rattle.config.specs.declared.Config.{Config}
@@ -194,8 +194,8 @@ module _ (w : ℕ) where
   pub words-l1_entry : One (λ (r : L1Entry). r ≡ l1Of w)
   words-l1_entry = is _
 
-  pub words-all_valid : One (λ (r : Bool). r ≡ all knownAt (nibs 16 w))
-  words-all_valid = is _
+  pub nibbles-all_valid : One (λ (r : Bool). r ≡ all knownAt (nibs 16 w))
+  nibbles-all_valid = is _
 
   pub words-gpis : One (λ (r : List Gpi). r ≡ gpisOf w)
   words-gpis = is _

@@ -11,7 +11,7 @@ use borrow.Author.Tests.{eqb-true, eq-eqb}
 use lib.Dec.{lit<, eqb}
 use lib.ListN.{length, getD, set, replicate, length-replicate}
 use Rattle.gpi.proofs.Table.{and-both}
-use Rattle.words.specs.Nibs.{nib, nibs, word, all}
+use Rattle.nibbles.specs.Nibs.{nib, nibs, word, all}
 
 -- every one is a nibble
 abbrev pub Small : List ℕ → Type 0
