@@ -5,8 +5,8 @@ use Prim.Native.Nat.{_-_}
 use native.Mathlib.Omega.{arith}
 use borrow.Author.Needs.{needs}
 use lib.ListN.{length}
-use Rattle.cases.proofs.all_mended.Statement.{statement}
-use Rattle.cases.proofs.all_mended.Tie as tie
+use Rattle.cases.proofs.cuts.all_mended.Statement.{statement}
+use Rattle.cases.proofs.cuts.all_mended.Tie as tie
 
 abbrev Inv-loop : tie.InvT-loop
 Inv-loop a₀ limit₀ a limit = length a ≡ length a₀

@@ -5,8 +5,8 @@ use Prim.Native.Nat.{_-_}
 use native.Mathlib.Omega.{arith}
 use borrow.Author.Needs.{needs}
 use lib.ListN.{length}
-use Rattle.cases.proofs.redo.Statement.{statement}
-use Rattle.cases.proofs.redo.Tie as tie
+use Rattle.cases.proofs.cuts.redo.Statement.{statement}
+use Rattle.cases.proofs.cuts.redo.Tie as tie
 
 abbrev Inv-loop : tie.InvT-loop
 Inv-loop a₀ log cut left₀ at₀ a left at = length a ≡ length a₀

@@ -3,8 +3,8 @@
 use Prim.Native.Nat.{_-_, _≤_}
 use native.Mathlib.Omega.{arith}
 use borrow.Author.Needs.{needs}
-use Rattle.cases.proofs.cuts.Statement.{statement}
-use Rattle.cases.proofs.cuts.Tie as tie
+use Rattle.cases.proofs.cuts.all_cuts.Statement.{statement}
+use Rattle.cases.proofs.cuts.all_cuts.Tie as tie
 
 abbrev Inv-loop : tie.InvT-loop
 Inv-loop log cut₀ n₀ cut n = n ≤ cut
@@ -33,8 +33,8 @@ loop-again c = omega arith
 returns : tie.Need-returns Inv-loop μ-loop
 returns c = search needs
 
-pub cuts-spec : {M : Type 1} → statement M
-cuts-spec =
+pub all-cuts-spec : {M : Type 1} → statement M
+all-cuts-spec =
     tie.close
     (tie.spec
     Inv-loop

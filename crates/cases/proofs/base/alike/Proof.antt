@@ -3,8 +3,8 @@
 use Prim.Native.Nat.{_≤_, _-_}
 use native.Mathlib.Omega.{arith}
 use borrow.Author.Needs.{needs}
-use Rattle.cases.proofs.alike.Statement.{statement}
-use Rattle.cases.proofs.alike.Tie as tie
+use Rattle.cases.proofs.base.alike.Statement.{statement}
+use Rattle.cases.proofs.base.alike.Tie as tie
 
 abbrev Inv-loop : tie.InvT-loop
 Inv-loop words a e w k₀ n₀ k n = n ≤ k

@@ -5,8 +5,8 @@ use Prim.Native.Nat.{_+_, _-_, _≤_}
 use native.Mathlib.Omega.{arith}
 use borrow.Author.Needs.{needs}
 use lib.ListN.{length, length-set}
-use Rattle.cases.proofs.redo_fill.Statement.{statement}
-use Rattle.cases.proofs.redo_fill.Tie as tie
+use Rattle.cases.proofs.cuts.redo_fill.Statement.{statement}
+use Rattle.cases.proofs.cuts.redo_fill.Tie as tie
 
 abbrev Inv-loop : tie.InvT-loop
 Inv-loop a₀ first n w left m i₀ a i = (first + m ≤ length a) × (m ≤ left) × (length a ≡ length a₀)

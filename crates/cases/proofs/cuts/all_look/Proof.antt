@@ -3,8 +3,8 @@
 use Prim.Native.Nat.{_-_, _≤_}
 use native.Mathlib.Omega.{arith}
 use borrow.Author.Needs.{needs}
-use Rattle.cases.proofs.all_look.Statement.{statement}
-use Rattle.cases.proofs.all_look.Tie as tie
+use Rattle.cases.proofs.cuts.all_look.Statement.{statement}
+use Rattle.cases.proofs.cuts.all_look.Tie as tie
 
 abbrev Inv-loop : tie.InvT-loop
 Inv-loop a g k₀ k = k ≤ 16384
