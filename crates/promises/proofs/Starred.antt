@@ -1,4 +1,4 @@
--- The starred cases, computed.
+-- The starred cases, computed, and one more.
 -- Assumes nothing.
 use mathlib.Core.Path.{refl}
 use Rattle.tables.specs.Format.{reads}
@@ -13,7 +13,7 @@ use Rattle.config.specs.Fields.{configuredOf}
 use Rattle.place.specs.Place.{arenaBad, outside, siteOf, located, placeOf}
 use Rattle.gpt.specs.Lookup.{lookedAt, lookupOf}
 use Rattle.gpt.specs.Set.{siteSet, setAt, setOf}
-use Rattle.promises.specs.Cases.{Starred}
+use Rattle.promises.specs.Cases.{Starred, ShatteredThenStopped}
 use Prim.Native.Nat.{ℕ}
 
 -- what must open for the definitions to be computed
@@ -38,3 +38,7 @@ starred = record {
   c10 = record { number = refl; stores = refl; records = refl; arena = refl; log = refl };
   c11 = record { number = refl; stores = refl; records = refl; arena = refl; log = refl };
 }
+
+pub shattered-then-stopped : ShatteredThenStopped
+unfolding opened
+shattered-then-stopped = record { number = refl; stores = refl; records = refl; arena = refl; log = refl }

@@ -87,3 +87,13 @@ pub record Starred : Type 0 where
   -- "set on the block at 0, NonSecure: 6", "set GPI 13: 6"
   pub c10 : Leaves 6 0 0 arena log (change arena 0x0 9)
   pub c11 : Leaves 6 0 0 arena log (change arena 0x4000_0000 13)
+
+-- ---- one more: a set that shatters and then answers 10
+
+-- "Refusal 10 leaves the shattered words and the new granule stored, nothing fused, and the log up to that point": a 2 MB entry of Root at the
+-- address, an invalid word in its 32 MB, and Root is set
+abbrev pub ShatteredThenStopped : Type 0
+ShatteredThenStopped =
+    Leaves 10 3 8 (0xAAAA_AAAA_AAAA_AAAA ∷ 0xAAAA_AAAA_AAAA_AAAA ∷ 0x2 ∷ replicate 1021 0x3A1)
+    (1 ∷ 0 ∷ 2 ∷ 0xAAAA_AAAA_AAAA_AAAA ∷ (barriers 0x20_0000 ++ (5 ∷ 0 ∷ 0 ∷ 0xAAAA_AAAA_AAAA_AAAA ∷ (barriers 0x1_0000 ++ replicate 20 7))))
+    (change (0x1A1 ∷ 0x1A1 ∷ 0x2 ∷ replicate 1021 0x3A1) 0x4000_0000 10)
