@@ -1,6 +1,7 @@
 // Replays the Rust's answers: standard input is the list that compare/ wrote (README.md), each request goes to the port by its C interface, and
 // answer, GPI, barriers and every arena word are held to what the Rust did. So the gate compares with the Rust, and needs none.
 // Nothing is taken on trust of the list: a number that doesn't fit what is here counts as a difference.
+mod parts;
 
 // What the records said so far.
 struct State {
@@ -18,95 +19,6 @@ struct State {
     differ: u64,
 }
 
-fn wide(b: u8) -> u64 {
-    b as u64
-}
-
-// Word k of a record.
-fn word(b: &[u8; 32], k: usize) -> u64 {
-    if 3 < k {
-        return 0;
-    }
-    let i = 8 * k;
-    let low = wide(b[i]) | (wide(b[i + 1]) << 8) | (wide(b[i + 2]) << 16) | (wide(b[i + 3]) << 24);
-    let high = wide(b[i + 4])
-        | (wide(b[i + 5]) << 8)
-        | (wide(b[i + 6]) << 16)
-        | (wide(b[i + 7]) << 24);
-    low | (high << 32)
-}
-
-// So many words from `at` on made w, if they are there.
-fn fill(t: &mut [u64], at: u64, count: u64, w: u64) -> bool {
-    let n = t.len() as u64;
-    if n < at {
-        return false;
-    }
-    if n - at < count {
-        return false;
-    }
-    let end = (at + count) as usize;
-    let mut i = at as usize;
-    while i < end {
-        t[i] = w;
-        i += 1;
-    }
-    true
-}
-
-fn same(a: &[u64], b: &[u64]) -> bool {
-    if a.len() < b.len() {
-        return false;
-    }
-    if b.len() < a.len() {
-        return false;
-    }
-    let mut i: usize = 0;
-    while i < a.len() {
-        if a[i] != b[i] {
-            return false;
-        }
-        i += 1;
-    }
-    true
-}
-
-// Word j of record k of a log; 0 past its end.
-fn logged(log: &[u64], k: usize, j: usize) -> u64 {
-    if 13 < k {
-        return 0;
-    }
-    if 3 < j {
-        return 0;
-    }
-    let i = 4 * k + j;
-    if i < log.len() {
-        return log[i];
-    }
-    0
-}
-
-// The next record from k on that is a barrier's, or n.
-fn barrier(log: &[u64], from: usize, n: usize) -> usize {
-    let mut k = from;
-    while k < n {
-        let kind = logged(log, k, 0);
-        if kind == 2 || kind == 3 || kind == 4 {
-            return k;
-        }
-        k += 1;
-    }
-    n
-}
-
-fn more(n: u64) -> u64 {
-    std::num::wrapping_add_u64(n, 1)
-}
-
-fn byte(n: u64) -> u8 {
-    (n % 256) as u8
-}
-
 // A lookup: the number that the port hands back, or none that is any.
 fn lookup(l0: &[u64], arena: &[u64], s: State, address: u64) -> u64 {
     let f = s.fields;
@@ -120,10 +32,10 @@ fn lookup(l0: &[u64], arena: &[u64], s: State, address: u64) -> u64 {
         return 255;
     }
     abi::gpt_lookup(
-        byte(f),
-        byte(f >> 8),
-        byte(f >> 16),
-        byte(f >> 24),
+        parts::byte(f),
+        parts::byte(f >> 8),
+        parts::byte(f >> 16),
+        parts::byte(f >> 24),
         &l0[o..n],
         &arena[o..m],
         s.base,
@@ -143,10 +55,10 @@ fn set(l0: &[u64], arena: &mut [u64], log: &mut [u64], s: State, address: u64, g
         return 255;
     }
     abi::gpt_set(
-        byte(f),
-        byte(f >> 8),
-        byte(f >> 16),
-        byte(f >> 24),
+        parts::byte(f),
+        parts::byte(f >> 8),
+        parts::byte(f >> 16),
+        parts::byte(f >> 24),
         &l0[o..n],
         &mut arena[o..m],
         s.base,
@@ -158,7 +70,7 @@ fn set(l0: &[u64], arena: &mut [u64], log: &mut [u64], s: State, address: u64, g
 
 fn wrong(s: State) -> State {
     let mut t = s;
-    t.differ = more(s.differ);
+    t.differ = parts::more(s.differ);
     t
 }
 
@@ -182,10 +94,10 @@ fn arranged(
     entries: u64,
 ) -> State {
     let n = l0.len() as u64;
-    fill(l0, 0, n, 0);
+    parts::fill(l0, 0, n, 0);
     let m = arena.len() as u64;
-    fill(arena, 0, m, 0);
-    fill(want, 0, m, 0);
+    parts::fill(arena, 0, m, 0);
+    parts::fill(want, 0, m, 0);
     let mut t = s;
     t.fields = fields;
     t.base = base;
@@ -197,7 +109,7 @@ fn arranged(
 // Record 4: the port's answer, packed, against the Rust's.
 fn looked(s: State, port: u64, rust: u64) -> State {
     let mut t = s;
-    t.asked = more(s.asked);
+    t.asked = parts::more(s.asked);
     if port == rust {
         return t;
     }
@@ -207,38 +119,24 @@ fn looked(s: State, port: u64, rust: u64) -> State {
 // Record 5: a set was made. Its barriers and its words follow.
 fn begun(s: State, port: u64, rust: u64) -> State {
     let mut t = s;
-    t.asked = more(s.asked);
+    t.asked = parts::more(s.asked);
     t.records = ((port / 256) % 256) as usize;
     t.next = 0;
     t.equal = port % 256 == rust;
     t
 }
 
-// Whether record k of a log is this one.
-fn is_record(log: &[u64], k: usize, kind: u64, x: u64, y: u64) -> bool {
-    if logged(log, k, 0) != kind {
-        return false;
-    }
-    if logged(log, k, 1) != x {
-        return false;
-    }
-    if logged(log, k, 2) != y {
-        return false;
-    }
-    logged(log, k, 3) == 0
-}
-
 // Record 6: the Rust's next barrier is the next in the port's log.
 fn told(log: &[u64], s: State, kind: u64, x: u64, y: u64) -> State {
     let mut t = s;
     let n = s.records;
-    let k = barrier(log, s.next, n);
+    let k = parts::barrier(log, s.next, n);
     if n <= k {
         t.equal = false;
         return t;
     }
     t.next = k + 1;
-    if is_record(log, k, kind, x, y) {
+    if parts::is_record(log, k, kind, x, y) {
         return t;
     }
     t.equal = false;
@@ -248,10 +146,10 @@ fn told(log: &[u64], s: State, kind: u64, x: u64, y: u64) -> State {
 // Record 8: no barrier is left, and every word is the Rust's.
 fn ended(arena: &[u64], want: &[u64], log: &[u64], s: State) -> State {
     let n = s.records;
-    if barrier(log, s.next, n) < n {
+    if parts::barrier(log, s.next, n) < n {
         return wrong(s);
     }
-    if !same(arena, want) {
+    if !parts::same(arena, want) {
         return wrong(s);
     }
     noted(s, s.equal)
@@ -275,11 +173,11 @@ fn step(
         return arranged(l0, arena, want, s, rest, a, b, c);
     }
     if kind == 2 {
-        return noted(s, fill(l0, a, b, c));
+        return noted(s, parts::fill(l0, a, b, c));
     }
     if kind == 3 {
-        let t = noted(s, fill(arena, a, b, c));
-        return noted(t, fill(want, a, b, c));
+        let t = noted(s, parts::fill(arena, a, b, c));
+        return noted(t, parts::fill(want, a, b, c));
     }
     if kind == 4 {
         return looked(s, lookup(&l0[..], &arena[..], s, a), b);
@@ -291,7 +189,7 @@ fn step(
         return told(&log[..], s, rest, a, b);
     }
     if kind == 7 {
-        return noted(s, fill(want, a, b, c));
+        return noted(s, parts::fill(want, a, b, c));
     }
     if kind == 8 {
         return ended(&arena[..], &want[..], &log[..], s);
@@ -310,7 +208,7 @@ fn report(s: State) {
 fn replay(l0: &mut [u64], arena: &mut [u64], want: &mut [u64], log: &mut [u64]) {
     let mut record = [0u8; 32];
     io::read_full(0, &mut record);
-    let mut left = word(&record, 1);
+    let mut left = parts::word(&record, 1);
     let mut s = State {
         fields: 0,
         base: 0,
@@ -328,10 +226,10 @@ fn replay(l0: &mut [u64], arena: &mut [u64], want: &mut [u64], log: &mut [u64]) 
             io::write_all(1, b"the list is cut short\n");
             return;
         }
-        let head = word(&record, 0);
-        let a = word(&record, 1);
-        let b = word(&record, 2);
-        let c = word(&record, 3);
+        let head = parts::word(&record, 0);
+        let a = parts::word(&record, 1);
+        let b = parts::word(&record, 2);
+        let c = parts::word(&record, 3);
         s = step(l0, arena, want, log, s, head, a, b, c);
     }
     report(s);

@@ -4,8 +4,8 @@ use mathlib.Core.Path.{_≡_, refl, sym, _∙_}
 use Prim.Native.Nat.{_-_}
 use native.Mathlib.Omega.{arith}
 use lib.ListN.{length, length-set}
-use Rattle.replay.proofs.fill.Statement.{statement}
-use Rattle.replay.proofs.fill.Tie as tie
+use Rattle.replay.proofs.parts.fill.Statement.{statement}
+use Rattle.replay.proofs.parts.fill.Tie as tie
 
 abbrev Inv-loop : tie.InvT-loop
 Inv-loop t₀ at count w n end i₀ t i = length t ≡ length t₀

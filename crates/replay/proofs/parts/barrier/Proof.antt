@@ -3,8 +3,8 @@
 use Prim.Native.Nat.{_-_, _≤_}
 use native.Mathlib.Omega.{arith}
 use borrow.Author.Needs.{needs}
-use Rattle.replay.proofs.barrier.Statement.{statement}
-use Rattle.replay.proofs.barrier.Tie as tie
+use Rattle.replay.proofs.parts.barrier.Statement.{statement}
+use Rattle.replay.proofs.parts.barrier.Tie as tie
 
 abbrev Inv-loop : tie.InvT-loop
 Inv-loop log from n k₀ k = k ≤ k
