@@ -80,7 +80,7 @@ module _ (R : RattleType) (f : List ℕ → ℕ → ℕ → R .Denot) where
     abbrev step-clauses : Clauses 𝓤 step
     step-clauses κs a = record { ghost = Unit {0}; requires = λ _. emp 𝓤; ensures = λ _ r _. fact 𝓤 (r ≡ f (now (a .0)) (a .1 .0) (a .1 .1 .0)) }
 
-    abbrev reader-clauses : Clauses 𝓤 reader
+    abbrev pub reader-clauses : Clauses 𝓤 reader
     reader-clauses κs a = record { ghost = Unit {0}; requires = λ _. emp 𝓤; ensures = λ _ r _. fact 𝓤 (r ≡ f (now (a .0 .words)) (a .0 .width) (a .1 .0)) }
 
     -- the contract that the proof cites

@@ -32,7 +32,7 @@ enum-known-r : tie.Need-enum-known-r
 enum-known-r c = search needs
 
 last-of-requires : tie.Need-last-of-requires
-last-of-requires c κs = let s = small (c .before .before .before .before .before .before) in (s .0, s .1)
+last-of-requires c κs = let s = small (c .before .before .before .before .before .before) in (s .0, omega (arith, s .1, s .2))
 
 enum-known-g : tie.Need-enum-known-g
 enum-known-g c = search needs
@@ -41,7 +41,7 @@ grant-requires : tie.Need-grant-requires
 grant-requires c κs = search needs
 
 last-of-requires-2 : tie.Need-last-of-requires-2
-last-of-requires-2 c κs = let s = small (c .before .before .before .before .before .before .before) in (s .0, s .1)
+last-of-requires-2 c κs = let s = small (c .before .before .before .before .before .before .before) in (s .0, omega (arith, s .1, s .2))
 
 enum-known-s : tie.Need-enum-known-s
 enum-known-s c = search needs
@@ -62,7 +62,7 @@ part-gpi-through-end : tie.Need-part-gpi-through-end
 part-gpi-through-end c = at-site (c .before .before) .fits
 
 distance-requires : tie.Need-distance-requires
-distance-requires c κs = let s = small (c .before .before .before .before .before .before .before .before) in omega (arith, s .1)
+distance-requires c κs = let s = small (c .before .before .before .before .before .before .before .before) in omega (arith, s .1, s .2)
 
 gpi-through-requires : tie.Need-gpi-through-requires
 gpi-through-requires c κs = search needs
@@ -71,7 +71,7 @@ answer-requires : tie.Need-answer-requires
 answer-requires c κs = search needs
 
 last-of-requires-3 : tie.Need-last-of-requires-3
-last-of-requires-3 c κs = let s = small (c .before .before .before .before .before .before .before .before .before .before .before) in (s .0, s .2)
+last-of-requires-3 c κs = let s = small (c .before .before .before .before .before .before .before .before .before .before .before) in (s .0, omega (arith, s .1, s .2))
 
 returns : tie.Need-returns
 unfolding lookedAt
