@@ -22,8 +22,14 @@ use Rattle.place.specs.Sited.{Passed}
 use Rattle.place.proofs.Chain.{through}
 use Rattle.gpt.specs.Lookup.{plain, lookedAt, lookupOf}
 use Rattle.runs.specs.declared.Piece.{Piece}
-use Rattle.runs.specs.Runs.{total, bitsOf, Open, Holds}
+use Rattle.runs.specs.Runs.{total, Open, Holds}
 use Rattle.runs.proofs.Stretch.{lastOf, last-from, last-same, last-inside, below-52, placed}
+
+-- the bits of the aligned stretch that a place speaks for
+abbrev bitsOf : Widths → Place → ℕ
+bitsOf w (No r) = w .l0gptsz
+bitsOf w (Block g) = w .l0gptsz
+bitsOf w (Table s) = w .pgs
 
 module _ (c : Config) (L A : List ℕ) (b : ℕ) (w : Widths) (o : Open c L A b w) where
   listed : Listed w

@@ -12,8 +12,6 @@ use Rattle.config.specs.declared.Widths.{Widths}
 use Rattle.config.specs.declared.Configured.the-variants.{Ok as Taken}
 use Rattle.config.specs.Fields.{configuredOf}
 use Rattle.config.specs.Index.{l0Entries}
-use Rattle.place.specs.declared.Place.{Place}
-use Rattle.place.specs.declared.Place.the-variants.{No, Block, Table}
 use Rattle.place.specs.declared.Refusal.the-variants.{InvalidL1Entry}
 use Rattle.place.specs.Place.{arenaBad}
 use Rattle.gpt.specs.declared.Looked.{Looked}
@@ -55,12 +53,6 @@ pub record Open (c : Config) (L A : List ℕ) (b : ℕ) (w : Widths) : Type 0 wh
   pub configured : configuredOf c ≡ Taken w
   pub enough : l0Entries w ≤ length L
   pub arena : arenaBad b (length A) ≡ false
-
--- the bits of the aligned stretch that a place speaks for
-abbrev pub bitsOf : Widths → Place → ℕ
-bitsOf w (No r) = w .l0gptsz
-bitsOf w (Block g) = w .l0gptsz
-bitsOf w (Table s) = w .pgs
 
 -- the answer where a table's view holds this; what lies outside the table is never asked (`view-is-lookup`)
 abbrev pub answerOf : Config → Held → Looked
