@@ -1,7 +1,7 @@
 -- A set's answer and counts are small, whatever it is asked: at most 13 records, and each word of two ranges of 512 MB stored once, and the granule.
 -- A mend stores at most the words of its table. So the packed number's parts don't run into one another.
 -- Assumes nothing.
-use mathlib.Core.Path.{_≡_, refl, ap}
+use mathlib.Core.Path.{_≡_, refl}
 use mathlib.Core.Bool.{Bool, true, false}
 use mathlib.Core.List.{List, _∷_, _++_}
 use Prim.Native.Nat.{ℕ, zero, suc, _+_, _≤_, _<_}
@@ -12,10 +12,9 @@ use Rattle.gpi.specs.declared.Nibble.{Nibble}
 use Rattle.gpi.specs.declared.Nibble.the-variants.{Known, Reserved}
 use Rattle.gpi.specs.Gpi.{num, gpiAt}
 use Rattle.tables.specs.Format.{Format, Laws, gpi}
-use Rattle.tables.specs.Normal.{at, span}
+use Rattle.tables.specs.Normal.{at, span, normalWord}
 use Rattle.tables.specs.Events.{granule, count}
 use Rattle.tables.specs.Set.{Fused, nowhere, level, refused, barriers, breaks, broken, brokenBarriers, newWord, fusing, fused, storeEvents, setEvents}
-use Rattle.tables.specs.Normal.{normalWord}
 use Rattle.tables.proofs.Mend.{mendCount-is, differing-few}
 use Rattle.tables.proofs.Set.{at-most-13, count-append, count-fill, count-shatter, fusing-level}
 use Rattle.words.specs.Arm.{arm}
@@ -30,7 +29,7 @@ use Rattle.place.specs.Place.{placeOf, tableOf}
 use Rattle.place.proofs.Numbers.{refusal-number}
 use Rattle.place.proofs.Promises.{resolved, table-length}
 use Rattle.stores.specs.declared.Tally.{Tally}
-use Rattle.stores.specs.Table.{answerOf}
+use Rattle.sets.specs.Table.{answerOf}
 use Rattle.gpt.specs.declared.Changed.the-variants.{Refused}
 use Rattle.gpt.specs.Lookup.{plain}
 use Rattle.gpt.specs.Set.{changedBy, siteSet, asking, setAt, setOf}

@@ -10,7 +10,7 @@ use native.Mathlib.Omega.{arith}
 use borrow.Author.Tests.{eqb-true}
 use lib.Dec.{eqb, lit<}
 use lib.ListN.{getD, List·getD-eq-default}
-use Rattle.gpi.specs.Gpi.{num, gpiAt, nibbles, knownAt}
+use Rattle.gpi.specs.Gpi.{num, gpiAt, nibbles, isKnown, knownAt}
 use Rattle.gpi.specs.Size.{sizeNum, sizeAt, bytesOf, smallerOf}
 use Rattle.gpi.specs.declared.Size.{Size}
 use Rattle.gpi.specs.declared.Size.the-variants.{MB2, MB32, MB512}
@@ -72,13 +72,20 @@ known-lt n e = go (decLt n 16)
 pub num-lt : (g : Gpi) → num g < 16
 num-lt g = known-lt (num g) (rw (gpi-num g))
 
--- a number that is no GPI's is reserved
-pub unknown : (n : ℕ) → ((g : Gpi) → n ≡ num g → ⊥) → gpiAt n ≡ Reserved
-unknown n h = go (gpiAt n) refl
+-- a known number is some GPI's, and any other is reserved
+pub named : (P : Type 0) (n : ℕ) → knownAt n ≡ true → ((g : Gpi) → n ≡ num g → P) → P
+named P n k f = go (gpiAt n) refl k
   where
-    go : (x : Nibble) → gpiAt n ≡ x → x ≡ Reserved
-    go (Known g) e = absurd (h g (num-at n g e))
-    go Reserved e = refl
+    go : (x : Nibble) → gpiAt n ≡ x → isKnown x ≡ true → P
+    go (Known g) e k = f g (num-at n g e)
+    go Reserved e k = let z : _≡_ {A = ℕ} 0 1 = cc in absurd (omega arith)
+
+pub unnamed : (n : ℕ) → knownAt n ≡ false → gpiAt n ≡ Reserved
+unnamed n k = go (gpiAt n) k
+  where
+    go : (x : Nibble) → isKnown x ≡ false → x ≡ Reserved
+    go (Known g) k = let z : _≡_ {A = ℕ} 0 1 = cc in absurd (omega arith)
+    go Reserved k = refl
 
 -- ---- sizes
 

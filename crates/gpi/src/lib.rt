@@ -1,6 +1,7 @@
 // GPIs and the sizes of contiguous descriptors: their numbers and back, and the table of nibbles.
 // From table.rs: `GPIAccessType`, `ContigSize`.
 ghost use mathlib.Core.Path.{_≡_};
+ghost use mathlib.Core.Bool.{true};
 ghost use Rattle.gpi.specs.Gpi.{num, gpiAt, knownAt};
 ghost use Rattle.gpi.specs.Size.{sizeNum, sizeAt, bytesOf, smallerOf};
 
@@ -38,7 +39,7 @@ pub enum SizeCode {
     None,
 }
 
-// The nibbles that stand for a GPI. A use of a constant array builds it anew: a loop copies it once before it starts.
+// The nibbles that stand for a GPI. Each use of a constant array builds it anew, by three stores.
 pub const VALID: [bool; 16] = [
     true,
     false,
@@ -89,23 +90,34 @@ pub fn number(g: Gpi) -> u64
     }
 }
 
-// The GPI of a number. A match and not a table of GPIs, which each call would build anew.
+// The GPI of a known number.
+fn gpi_named(n: u64) -> Gpi
+    requires { ⌜ knownAt n ≡ true ⌝ }
+    ensures { λ r. ⌜ n ≡ num r ⌝ }
+{
+    match n {
+        0 => Gpi::NoAccess,
+        4 => Gpi::SystemAgent,
+        5 => Gpi::NonSecureProtected,
+        6 => Gpi::NoAccess6,
+        7 => Gpi::NoAccess7,
+        8 => Gpi::Secure,
+        9 => Gpi::NonSecure,
+        10 => Gpi::Root,
+        11 => Gpi::Realm,
+        13 => Gpi::NonSecureOnly,
+        _ => Gpi::Any,
+    }
+}
+
+// The GPI of a number: the table says whether there is one.
 pub fn gpi_of(n: u64) -> Nibble
     ensures { λ r. ⌜ r ≡ gpiAt n ⌝ }
 {
-    match n {
-        0 => Nibble::Known(Gpi::NoAccess),
-        4 => Nibble::Known(Gpi::SystemAgent),
-        5 => Nibble::Known(Gpi::NonSecureProtected),
-        6 => Nibble::Known(Gpi::NoAccess6),
-        7 => Nibble::Known(Gpi::NoAccess7),
-        8 => Nibble::Known(Gpi::Secure),
-        9 => Nibble::Known(Gpi::NonSecure),
-        10 => Nibble::Known(Gpi::Root),
-        11 => Nibble::Known(Gpi::Realm),
-        13 => Nibble::Known(Gpi::NonSecureOnly),
-        15 => Nibble::Known(Gpi::Any),
-        _ => Nibble::Reserved,
+    if is_valid(n) {
+        Nibble::Known(gpi_named(n))
+    } else {
+        Nibble::Reserved
     }
 }
 

@@ -6,7 +6,7 @@ use mathlib.Core.List.{List, [], _∷_}
 use Prim.Native.Nat.{ℕ}
 use lib.ListN.{replicate, set}
 use Rattle.gpi.specs.declared.Gpi.the-variants.{NonSecure, Root, Realm}
-use Rattle.words.specs.Nibs.{nibs}
+use Rattle.nibbles.specs.Nibs.{nibs}
 use Rattle.words.specs.L0.{l0Of}
 use Rattle.words.specs.L1.{l1Of}
 use Rattle.config.specs.declared.Config.{Config}

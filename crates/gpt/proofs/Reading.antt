@@ -1,6 +1,6 @@
 -- What a lookup takes from the arena: its length, and what the one word reads at the one granule. The cut's theorem rests on it.
 -- Assumes nothing.
-use mathlib.Core.Path.{_≡_, refl, sym, ap, _∙_}
+use mathlib.Core.Path.{_≡_, refl, ap, _∙_}
 use mathlib.Core.Bool.{true}
 use mathlib.Core.List.{List}
 use Prim.Native.Nat.{ℕ}
@@ -10,7 +10,6 @@ use Rattle.gpi.specs.declared.Nibble.the-variants.{Known}
 use Rattle.pa.specs.Pa.{pa}
 use Rattle.config.specs.declared.Config.{Config}
 use Rattle.config.specs.Fields.{supportedOf}
-use Rattle.place.specs.declared.Ask.{Ask}
 use Rattle.place.specs.declared.Call.the-variants.{Plain}
 use Rattle.place.specs.declared.Site.{Site}
 use Rattle.place.specs.declared.Place.{Place}

@@ -1,16 +1,16 @@
 -- A set at a place of the arena, over plain lists: what the table's set asks is there, and what it made in the table is made in the arena.
 -- Assumes nothing.
-use mathlib.Core.Path.{_≡_, refl, sym, ap, ap₂, _∙_}
-use mathlib.Core.Bool.{Bool, true, false, cond}
+use mathlib.Core.Path.{_≡_, refl, sym, ap, _∙_}
+use mathlib.Core.Bool.{Bool, true, false}
 use mathlib.Core.List.{List}
-use Prim.Native.Nat.{ℕ, _+_, _*_, _≤_, _<_, _^_}
+use Prim.Native.Nat.{ℕ, _+_, _*_, _≤_}
 use native.Mathlib.Omega.{arith}
 use borrow.Rule.Slice.PartMut.{putMid, put-same}
 use lib.ListN.{length}
 use Rattle.gpi.specs.declared.Gpi.{Gpi}
 use Rattle.gpi.specs.Gpi.{num}
 use Rattle.tables.specs.Normal.{at, span}
-use Rattle.tables.specs.Stores.{apply, Inside}
+use Rattle.tables.specs.Stores.{Inside}
 use Rattle.tables.specs.Events.{stores}
 use Rattle.tables.proofs.Stores.{apply-part}
 use Rattle.tables.proofs.Set.{inside-set}
@@ -20,10 +20,10 @@ use Rattle.place.specs.declared.Site.{Site}
 use Rattle.place.specs.Place.{tableOf}
 use Rattle.place.specs.Sited.{Sited}
 use Rattle.place.proofs.Promises.{table-length}
-use Rattle.stores.specs.declared.Answer.{Answer}
-use Rattle.stores.specs.Done.{Room, fresh}
-use Rattle.stores.specs.Table.{Placed, setTableOf}
-use Rattle.stores.specs.Table.{Made as TableMade}
+use Rattle.sets.specs.declared.Answer.{Answer}
+use Rattle.stores.specs.Done.{Room, fresh, Placed}
+use Rattle.sets.specs.Table.{setTableOf}
+use Rattle.sets.specs.Table.{Made as TableMade}
 use Rattle.gpt.specs.declared.Changed.{Changed}
 use Rattle.gpt.specs.Set.{Made, changedBy, jobOf, siteEvents, siteSet}
 

@@ -25,9 +25,9 @@ use Rattle.place.specs.declared.Refusal.{Refusal}
 use Rattle.place.specs.declared.Refusal.the-variants.{InvalidRequest, InvalidL1Entry}
 use Rattle.place.specs.Place.{refusalNumber, placeOf, tableOf}
 use Rattle.stores.specs.declared.Job.{Job}
-use Rattle.stores.specs.declared.Answer.{Answer}
-use Rattle.stores.specs.declared.Answer.the-variants.{Done as Finished, Stopped as Cut, Invalid}
-use Rattle.stores.specs.Table.{answerOf, tallyOf, eventsOf}
+use Rattle.sets.specs.declared.Answer.{Answer}
+use Rattle.sets.specs.declared.Answer.the-variants.{Done as Finished, Stopped as Cut, Invalid}
+use Rattle.sets.specs.Table.{answerOf, tallyOf, eventsOf}
 use Rattle.gpt.specs.declared.Changed.{Changed}
 use Rattle.gpt.specs.declared.Changed.the-variants.{Done, Stopped, Refused}
 

@@ -15,7 +15,7 @@ use place::Call;
 use place::Place;
 use place::Refusal;
 use place::Site;
-use stores::Answer;
+use sets::Answer;
 use stores::Job;
 use stores::Tally;
 
@@ -105,7 +105,7 @@ fn set_site(arena: &mut [u64], log: &mut [u64], s: Site, address: PA, g: Gpi) ->
         address,
         grain: s.grain,
     };
-    let a = stores::set_table(&mut arena[o..end], log, q);
+    let a = sets::set_table(&mut arena[o..end], log, q);
     changed_by(a)
 }
 

@@ -26,10 +26,10 @@ use Rattle.pa.specs.Pa.{pa}
 use Rattle.place.specs.declared.Call.the-variants.{Plain}
 use Rattle.gpt.specs.Lookup.{plain}
 use Rattle.mend.specs.declared.Checked.the-variants.{Yes}
-use Rattle.mend.specs.Normal.{isNormal}
+use Rattle.normal.specs.Normal.{isNormal}
 use Rattle.mend.specs.Outcome.{withTable, mendedNumber, checkedYes, mendedAt, mendOf, verdict, checkedAt, checkOf, mendsOf}
 use Rattle.mend.proofs.Sites.{sited}
-use Rattle.mend.proofs.Yes.{normal-yes, yes-the-one}
+use Rattle.normal.proofs.Yes.{normal-yes, yes-the-one}
 
 -- ---- an arena with another table in a table's place
 

@@ -10,7 +10,7 @@ use Rattle.tables.specs.Format.{reads}
 use Rattle.tables.specs.Normal.{span, every, alike, widest, capped}
 use Rattle.tables.specs.Stores.{apply}
 use Rattle.tables.specs.Mend.{repairs, mending, mend, mendCount}
-use Rattle.words.specs.Nibs.{nibs}
+use Rattle.nibbles.specs.Nibs.{nibs}
 use Rattle.words.specs.L0.{l0Of}
 use Rattle.words.specs.L1.{l1Of}
 use Rattle.words.specs.Arm.{arm}
@@ -18,7 +18,7 @@ use Rattle.config.specs.declared.Config.{Config}
 use Rattle.config.specs.Fields.{configuredOf}
 use Rattle.place.specs.Place.{arenaBad, outside, siteOf, located, placeOf}
 use Rattle.mend.specs.declared.Mended.{Mended}
-use Rattle.mend.specs.Normal.{isNormal}
+use Rattle.normal.specs.Normal.{isNormal}
 use Rattle.mend.specs.Outcome.{mendedNumber, mendedStores, checkedNumber, checkedYes, mendedAt, mendOf, checkedAt, checkOf}
 
 -- what must open for a mend and a check to be computed

@@ -1,16 +1,9 @@
 -- What is proved beyond the functions' contracts. The theorems stand in these files, each under its comment:
---   Yes     what the check's yes means of a table, and its no
 --   Calls   mends of an address's table as calls, of any limits and then one that no limit stops; the check of what they leave
 --   Lookups a mend changes no lookup
 --   Cases   worked examples
 -- The rest serves the functions' proofs.
 -- Assumes nothing.
-pub mod Lists
-pub mod Single
-pub mod Sizes
-pub mod Walks
-pub mod Judged
-pub mod Yes
 pub mod Sites
 pub mod Calls
 pub mod Lookups

@@ -19,9 +19,10 @@ use Rattle.gpt.specs.Lookup.{plain}
 use Rattle.mend.specs.declared.Mended.the-variants.{Ok, Refused}
 use Rattle.mend.specs.declared.Checked.{Checked}
 use Rattle.mend.specs.declared.Checked.the-variants.{Refused as Denied}
-use Rattle.mend.specs.Normal.{isNormal}
+use Rattle.normal.specs.Normal.{isNormal}
 use Rattle.mend.specs.Outcome.{withTable, Left, mendedAt, mendOf, verdict, checkedAt, checkOf}
-use Rattle.mend.specs.Ranges.{Regions, Repaired}
+use Rattle.ranges.specs.Ranges.{Regions}
+use Rattle.repair.specs.Mends.{Repaired}
 
 pub site-regions : (A : List ℕ) (s : Site) → Sited (length A) s → Regions (s .unit) (tableOf s A)
 site-regions A s h = record { some = h .unit-least; few = h .unit-most; regions = h .regions .0; whole = table-length A s h ∙ h .regions .1 }

@@ -1,3 +1,1 @@
-pub mod Normal
 pub mod Outcome
-pub mod Ranges

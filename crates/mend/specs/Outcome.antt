@@ -19,7 +19,7 @@ use Rattle.mend.specs.declared.Mended.{Mended}
 use Rattle.mend.specs.declared.Mended.the-variants.{Ok, Refused}
 use Rattle.mend.specs.declared.Checked.{Checked}
 use Rattle.mend.specs.declared.Checked.the-variants.{Yes, No, Refused as Denied}
-use Rattle.mend.specs.Normal.{isNormal}
+use Rattle.normal.specs.Normal.{isNormal}
 
 -- ---- the paper's numbers and values
 

@@ -27,7 +27,7 @@ use Rattle.tables.proofs.Events.{length-stores}
 use Rattle.tables.proofs.Normal.{same-normal, length-normal, normal-normal}
 use Rattle.tables.proofs.Mend.{length-mend, mends-then}
 use Rattle.tables.proofs.Set.{stores-set}
-use Rattle.tables.proofs.Log.{log-tells, arena-cut}
+use Rattle.tables.proofs.Log.{log-tells}
 use Rattle.tables.proofs.Cut.{flat-before, flat-after, cut-outside, cut-target-new}
 use Rattle.words.specs.L1.{readAt, flat}
 use Rattle.words.specs.Arm.{arm}
@@ -46,14 +46,14 @@ use Rattle.place.proofs.Granules.{same-granule, same-indices}
 use Rattle.gpt.specs.declared.Looked.the-variants.{Ok as Looks}
 use Rattle.gpt.specs.Lookup.{lookupOf}
 use Rattle.gpt.specs.Set.{Outcome, changedStores, siteEvents, asking}
-use Rattle.mend.specs.declared.Checked.the-variants.{Yes, No}
-use Rattle.mend.specs.Normal.{isNormal}
+use Rattle.mend.specs.declared.Checked.the-variants.{Yes}
+use Rattle.normal.specs.Normal.{isNormal}
 use Rattle.mend.specs.Outcome.{withTable, verdict, checkOf}
-use Rattle.mend.proofs.Yes.{normal-yes, yes-the-one}
-use Rattle.promises.specs.Demand3.{Ready, cutArena, storesBefore, granuleStoreAfter, granulesAfter, Mend, Names, AllName, Mending}
-use Rattle.promises.proofs.Lead.{log-lead}
+use Rattle.normal.proofs.Yes.{normal-yes, yes-the-one}
+use Rattle.promises.specs.Demand3.{Ready, cutArena, granuleStoreAfter, granulesAfter, Mend, Names, AllName, Mending}
 use Rattle.promises.proofs.Read.{nibbleOf, read-is}
 use Rattle.promises.proofs.Happened.{At}
+use Rattle.promises.proofs.Told.{cut-is, lead-is}
 use Rattle.promises.proofs.Found.{Found, found, mend-answers, mend-leaves, check-judges, looks-new, looks-same}
 
 -- ---- small laws
@@ -120,13 +120,6 @@ module _ {c : Config} {L A : List ℕ} {b : ℕ} {log : List ℕ} {x : ℕ} (g :
   length-stored : (k : ℕ) → length (stored k) ≡ s .words
   length-stored k = length-cut k (tableOf s A) (setStores arm (s .unit) (tableOf s A) (s .index) (s .granule) (num G) x (s .grain)) ∙ long
 
-  -- The arena is then the lent one with that table.
-  cut-is : (k : ℕ) → cutArena k A o ≡ withTable s A (stored k)
-  cut-is k =
-      ap₂ (λ (n : ℕ) (l : List ℕ). cut k A (readLog n l)) (made .records) (made .log-is)
-      ∙ arena-cut arm arm-laws (s .unit) (r .sited .unit-least) A (s .start) (s .words) (r .sited .fits) (r .sited .regions .0) (r .sited .regions .1)
-      (s .index) (s .granule) (num G) x (s .grain) (r .sited .index) log long-log k
-
   -- With all the log's stores made it is the one that the set leaves.
   pub all-made : (k : ℕ) → changedStores (o .answer) ≤ k → cutArena k A o ≡ o .arena
   unfolding cut
@@ -137,19 +130,13 @@ module _ {c : Config} {L A : List ℕ} {b : ℕ} {log : List ℕ} {x : ℕ} (g :
       (rw length-map (omega (arith, length-stores (siteEvents s x G A), made .stores-made))))
       ∙ sym (made .arena)
 
-  -- The log's granule store stands where the set makes it.
-  lead-is : granuleStoreAfter o ≡ lead arm (s .unit) (tableOf s A) (s .index)
-  lead-is =
-      ap₂ (λ (n : ℕ) (l : List ℕ). storesBefore n l) (made .records) (made .log-is)
-      ∙ log-lead arm arm-laws (s .unit) (tableOf s A) (s .index) (s .granule) (num G) x (s .grain) (s .start) log long-log
-
   -- It is one of the log's stores.
   pub granule-store : granuleStoreAfter o < changedStores (o .answer)
   unfolding lead
   granule-store =
       omega (
         arith,
-        lead-is,
+        lead-is made long-log,
         made .stores-made,
         length-stores (siteEvents s x G A),
         simp length-append at (ap length (stores-set arm (s .unit) (tableOf s A) (s .index) (s .granule) (num G) x (s .grain))),
@@ -169,12 +156,12 @@ module _ {c : Config} {L A : List ℕ} {b : ℕ} {log : List ℕ} {x : ℕ} (g :
   flat-old : (k : ℕ) → k ≤ granuleStoreAfter o → map flat (stored k) ≡ map flat (tableOf s A)
   flat-old k h =
       flat-before arm arm-laws (tableOf s A) (s .index) (s .granule) (num G) (made .valid) known-G (r .sited .granule) (s .unit) agrees x (s .grain) k
-      (omega (arith, lead-is))
+      (omega (arith, lead-is made long-log))
 
   flat-new : (k : ℕ) → granuleStoreAfter o < k → map flat (stored k) ≡ changedFlat arm (tableOf s A) (s .index) (s .granule) g
   flat-new k h =
       flat-after arm arm-laws (tableOf s A) (s .index) (s .granule) (num G) (made .valid) known-G (r .sited .granule) (s .unit) agrees x (s .grain) k
-      (omega (arith, lead-is))
+      (omega (arith, lead-is made long-log))
       ∙ ap (changedFlat arm (tableOf s A) (s .index) (s .granule)) (sym (num-at g G known))
 
   abbrev granules : ℕ → List ℕ
@@ -197,7 +184,7 @@ module _ {c : Config} {L A : List ℕ} {b : ℕ} {log : List ℕ} {x : ℕ} (g :
 
   pub outside : (k y : ℕ) → y / granuleBytes w ≢ x / granuleBytes w → lookupOf c L (cutArena k A o) b y ≡ lookupOf c L A b y
   outside k y ne =
-      ap (λ (B : List ℕ). lookupOf c L B b y) (cut-is k)
+      ap (λ (B : List ℕ). lookupOf c L B b y) (cut-is made long-log (r .sited) k)
       ∙ looks-same f (stored k) (length-stored k) ready y
       (λ n.
       let h = granule-in w (f .listed) y in
@@ -209,7 +196,7 @@ module _ {c : Config} {L A : List ℕ} {b : ℕ} {log : List ℕ} {x : ℕ} (g :
 
   pub old : (k y : ℕ) → k ≤ granuleStoreAfter o → lookupOf c L (cutArena k A o) b y ≡ lookupOf c L A b y
   old k y h =
-      ap (λ (B : List ℕ). lookupOf c L B b y) (cut-is k)
+      ap (λ (B : List ℕ). lookupOf c L B b y) (cut-is made long-log (r .sited) k)
       ∙ looks-same f (stored k) (length-stored k) ready y
       (λ n. same-read (at (stored k) (l1Index w y)) (at (tableOf s A) (l1Index w y)) (granuleIndex w y) (granule-in w (f .listed) y)
       (map-at flat (stored k) (tableOf s A) (flat-old k h) (l1Index w y)))
@@ -225,11 +212,11 @@ module _ {c : Config} {L A : List ℕ} {b : ℕ} {log : List ℕ} {x : ℕ} (g :
   new k y e h =
       let below = below-same w (f .listed) x y e (f .below) in
       let i = same-indices w (f .listed) y x below (f .below) e in
-      ap (λ (B : List ℕ). lookupOf c L B b y) (cut-is k)
+      ap (λ (B : List ℕ). lookupOf c L B b y) (cut-is made long-log (r .sited) k)
       ∙ looks-new f (stored k) (length-stored k) y (record { below = below; entry = i .0 }) G (i .1 ∙ sym (f .index)) (i .2 ∙ sym (f .granule))
       (read-is (at (stored k) (s .index)) (s .granule) (r .sited .granule)
       ∙ ap nibbleOf (cut-target-new arm arm-laws (tableOf s A) (s .index) (s .granule) (num G) (made .valid) known-G (r .sited .granule) (s .unit) agrees x (s .grain) k
-      in-table (omega (arith, lead-is)))
+      in-table (omega (arith, lead-is made long-log)))
       ∙ gpi-num G)
       supported
 
@@ -245,7 +232,7 @@ module _ {c : Config} {L A : List ℕ} {b : ℕ} {log : List ℕ} {x : ℕ} (g :
   pub mended : (k : ℕ) (ms : List Mend) (m : Mend) → AllName w x (ms ++ m ∷ []) → l1Words w ≤ m .limit
       → Mending c L b (ms ++ m ∷ []) (cutArena k A o) (withTable s A (tidy k))
   mended k ms m n h =
-      subst (λ (B : List ℕ). Mending c L b (ms ++ m ∷ []) B (withTable s A (tidy k))) (sym (cut-is k))
+      subst (λ (B : List ℕ). Mending c L b (ms ++ m ∷ []) B (withTable s A (tidy k))) (sym (cut-is made long-log (r .sited) k))
       (subst (λ (T : List ℕ). Mending c L b (ms ++ m ∷ []) (withTable s A (stored k)) (withTable s A T)) ends
       (mends-leave f ms m n (stored k) (length-stored k)))
     where

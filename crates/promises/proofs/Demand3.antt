@@ -6,7 +6,7 @@ use Prim.Native.Nat.{ℕ, _+_, _<_, _^_}
 use native.Mathlib.Decide.{decLt}
 use native.Mathlib.Omega.{arith}
 use lib.Dec.{lit<}
-use lib.ListN.{length, getD, take, drop, length-take, List·getD-eq-default}
+use lib.ListN.{drop, length-take, List·getD-eq-default}
 use lib.Seq.{getD-take, getD-drop}
 use Rattle.gpi.specs.Gpi.{gpiAt}
 use Rattle.gpi.proofs.Rules.{num-at}

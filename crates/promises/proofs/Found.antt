@@ -35,7 +35,7 @@ use Rattle.gpt.specs.declared.Looked.the-variants.{Ok as Looks}
 use Rattle.gpt.specs.Lookup.{lookupOf, readIn, plain}
 use Rattle.gpt.specs.Set.{asking}
 use Rattle.gpt.proofs.Reading.{same-answer, answers}
-use Rattle.mend.specs.Normal.{isNormal}
+use Rattle.normal.specs.Normal.{isNormal}
 use Rattle.mend.specs.Outcome.{mendedAt, mendOf, mendedNumber, withTable, verdict, checkedAt, checkOf}
 use Rattle.promises.specs.Demand3.{TableAt, Ready, Names}
 use Rattle.promises.proofs.Parts.{length-with, with-before, with-after, table-with, with-again}

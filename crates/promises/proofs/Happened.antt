@@ -1,6 +1,6 @@
 -- What a set that answers 0 or 10 did: its address lies in a table, its GPI is known, the entry is valid, and its events happened.
 -- Assumes nothing.
-use mathlib.Core.Path.{_≡_, refl, ap}
+use mathlib.Core.Path.{_≡_, refl}
 use mathlib.Core.Bool.{Bool, true, false}
 use mathlib.Core.List.{List}
 use Prim.Native.Nat.{ℕ}
@@ -20,10 +20,11 @@ use Rattle.place.specs.declared.Site.{Site}
 use Rattle.place.specs.declared.Place.{Place}
 use Rattle.place.specs.declared.Place.the-variants.{No, Block, Table}
 use Rattle.place.specs.declared.Refusal.{Refusal}
-use Rattle.place.specs.declared.Refusal.the-variants.{InvalidConfiguration, GptNotInitialized, FewL0Words, BadArena, ShortLog, InvalidRequest, InvalidL0Entry, OutsideArena, InvalidL1Entry}
+use Rattle.place.specs.declared.Refusal.the-variants.{InvalidRequest, InvalidL1Entry}
 use Rattle.place.specs.Place.{refusalNumber, placeOf, tableOf}
+use Rattle.place.proofs.Numbers.{refusal-number}
 use Rattle.stores.specs.declared.Tally.{Tally}
-use Rattle.stores.specs.Table.{answerOf, tallyOf}
+use Rattle.sets.specs.Table.{answerOf, tallyOf}
 use Rattle.gpt.specs.Set.{Outcome, changedNumber, changedRecords, changedStores, changedBy, siteEvents, siteSet, setAt, asking, setOf}
 use Rattle.promises.specs.Demand3.{Answers0or10, answers-0, answers-10}
 
@@ -43,20 +44,9 @@ pub record Happened (c : Config) (L A : List ℕ) (b : ℕ) (log : List ℕ) (x 
   pub made : At x gpi A log site o
 
 -- 1 to 9 are neither 0 nor 10
-never : (n : ℕ) → Answers0or10 n → (n ≡ 0 → ⊥) → (n ≡ 10 → ⊥) → ⊥
-never n (answers-0 e) p q = p e
-never n (answers-10 e) p q = q e
-
 no-refusal : (r : Refusal) → Answers0or10 (refusalNumber r) → ⊥
-no-refusal InvalidConfiguration a = never 1 a (λ e. omega arith) (λ e. omega arith)
-no-refusal GptNotInitialized a = never 2 a (λ e. omega arith) (λ e. omega arith)
-no-refusal FewL0Words a = never 3 a (λ e. omega arith) (λ e. omega arith)
-no-refusal BadArena a = never 4 a (λ e. omega arith) (λ e. omega arith)
-no-refusal ShortLog a = never 5 a (λ e. omega arith) (λ e. omega arith)
-no-refusal InvalidRequest a = never 6 a (λ e. omega arith) (λ e. omega arith)
-no-refusal InvalidL0Entry a = never 7 a (λ e. omega arith) (λ e. omega arith)
-no-refusal OutsideArena a = never 8 a (λ e. omega arith) (λ e. omega arith)
-no-refusal InvalidL1Entry a = never 9 a (λ e. omega arith) (λ e. omega arith)
+no-refusal r (answers-0 e) = omega (arith, refusal-number r .0)
+no-refusal r (answers-10 e) = omega (arith, refusal-number r .1)
 
 -- the counts don't depend on what the scans came to
 counts : (f : Fused) (t : Tally) → (changedRecords (changedBy (answerOf f t)) ≡ t .records) × (changedStores (changedBy (answerOf f t)) ≡ t .stores)

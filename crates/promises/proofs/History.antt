@@ -41,6 +41,7 @@ use Rattle.mend.specs.declared.Mended.the-variants.{Refused}
 use Rattle.mend.specs.Outcome.{Outcome, mendedNumber, mendedAt, mendOf}
 use Rattle.promises.specs.History.{Lent, placed, look, Request, Act, sets, cuts, mends, acted, made, State, start, act, acts, Aimed, May, Allowed, Ready, Kept}
 use Rattle.promises.proofs.HistoryParts.{part, parts, unit, listed, found, granule-below, nearby, site-words, site-unit, site-index, site-granule, parts-is, parts-apart, parts-whole, same-place, look-same, look-new}
+use Rattle.promises.proofs.Told.{lead-is}
 use Rattle.promises.proofs.HistoryActs.{Taken, target, set-is, set-arena, cut-arena, aimed}
 
 -- ---- the theory's ideal, at the target and elsewhere
@@ -202,7 +203,7 @@ module _ (q : Lent) (ok : configuredOf (q .config) ≡ Configured (q .widths)) w
     cut-kept r k w = go (set-is q ok (S .arena) r (w .answers))
       where
         go : (s : Site) × (g : Gpi) × Taken q (S .arena) r s g → Kept q (act q (cuts r k) S)
-        go (s, g, z) = record { ready = next-ready x s (z .place) a m B b n c; looks = λ y. rw (z .place) (looks (ltb (lead arm (s .unit) (tableOf s (S .arena)) (s .index)) k) refl y) }
+        go (s, g, z) = record { ready = next-ready x s (z .place) a m B b n c; looks = λ y. rw (lead-is (z .made) (z .long)) (looks (ltb (lead arm (s .unit) (tableOf s (S .arena)) (s .index)) k) refl y) }
           where
             x : ℕ
             x = r .address

@@ -24,7 +24,7 @@ use Rattle.tables.specs.Whole.{Whole}
 use Rattle.tables.specs.Moves.{Part, tableAt, Apart, Parts}
 use Rattle.words.specs.declared.L1Entry.{L1Entry}
 use Rattle.words.specs.declared.L1Entry.the-variants.{Contiguous, Granules, Invalid}
-use Rattle.words.specs.Nibs.{nib}
+use Rattle.nibbles.specs.Nibs.{nib}
 use Rattle.words.specs.L1.{l1Of, readOf, readAt, flatOf}
 use Rattle.words.specs.Arm.{arm, validOf}
 use Rattle.words.proofs.Entries.{nib-repeated}

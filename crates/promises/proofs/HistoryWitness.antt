@@ -1,7 +1,6 @@
 -- The history theorem's premises can be met: document 01's arrangement B, with a set, a set cut after any number of stores, and a mend of any limit.
 -- Assumes nothing.
 use mathlib.Core.Path.{_≡_, refl, sym, ap, _∙_}
-use mathlib.Core.Logic.{inl}
 use mathlib.Core.Bool.{Bool, true, cond}
 use mathlib.Core.List.{List, [], _∷_}
 use Prim.Native.Nat.{ℕ, zero, suc, _+_, _*_, _<_}
@@ -12,7 +11,6 @@ use Rattle.gpi.specs.declared.Gpi.the-variants.{Root, Realm}
 use Rattle.pa.specs.declared.PA.{PA}
 use Rattle.pa.specs.Pa.{pa}
 use Rattle.tables.specs.Format.{gpi}
-use Rattle.tables.specs.Set.{lead}
 use Rattle.tables.specs.Normal.{at, span}
 use Rattle.tables.specs.Whole.{Whole}
 use Rattle.tables.proofs.Ranges.{in-table}
@@ -32,6 +30,7 @@ use Rattle.place.proofs.Promises.{table-length, table-word}
 use Rattle.gpt.specs.declared.Looked.the-variants.{Ok}
 use Rattle.promises.specs.Cases.{fields, l0, arena, log}
 use Rattle.promises.specs.History.{Lent, placed, look, Act, sets, cuts, mends, start, act, acts, Allowed, Ready, Kept}
+use Rattle.promises.specs.Demand3.{answers-0, storesBefore}
 use Rattle.promises.proofs.Starred.{opened, starred}
 use Rattle.promises.proofs.HistoryParts.{listed, found}
 use Rattle.promises.proofs.History.{history}
@@ -94,7 +93,7 @@ story k n =
 pub allowed : (k n : ℕ) → Allowed lent (story k n) (start lent arena (λ _. true))
 unfolding act
 allowed k n =
-    (record { is-marked = refl; answers = inl (starred .c7 .number) }, (record { is-marked = refl; answers = inl (starred .c8 .number) }, (tt, tt)))
+    (record { is-marked = refl; answers = answers-0 (starred .c7 .number) }, (record { is-marked = refl; answers = answers-0 (starred .c8 .number) }, (tt, tt)))
 
 -- So the theorem speaks of them, at every moment.
 pub told : (k n j : ℕ) → Kept lent (acts lent (take j (story k n)) (start lent arena (λ _. true)))
@@ -102,5 +101,5 @@ told k n j = history lent in-order arena (λ _. true) (ready (λ _. true)) (stor
 
 -- C8's granule store is its first: cut before it, the address looks up as C7 left it, cut after it, as C8 asks; and so it stays, whatever the mend.
 pub target-told : (k n : ℕ) → look lent (acts lent (story k n) (start lent arena (λ _. true)) .arena) 0x4000_0000 ≡ cond (ltb 0 k) (Ok Root) (Ok Realm)
-unfolding acts act lead opened
+unfolding acts act storesBefore opened
 target-told k n = told k n 3 .looks 0x4000_0000

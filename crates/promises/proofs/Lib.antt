@@ -7,6 +7,7 @@ pub mod Parts
 pub mod Lead
 pub mod Read
 pub mod Happened
+pub mod Told
 pub mod Found
 pub mod Cut
 pub mod Demand3

@@ -7,7 +7,7 @@ use mathlib.Core.List.{List}
 use Prim.Native.Nat.{ℕ, suc, _*_, _<_, _^_}
 use native.Mathlib.Omega.{arith}
 use borrow.Author.Tests.{eq-eqb}
-use lib.Dec.{eqb, lit<}
+use lib.Dec.{lit<}
 use Rattle.gpi.specs.declared.Gpi.{Gpi}
 use Rattle.gpi.specs.declared.Nibble.{Nibble}
 use Rattle.gpi.specs.declared.Nibble.the-variants.{Known, Reserved}
@@ -16,11 +16,11 @@ use Rattle.gpi.specs.declared.Size.the-variants.{MB2, MB32, MB512}
 use Rattle.gpi.specs.Gpi.{num, gpiAt}
 use Rattle.gpi.proofs.Rules.{num-lt, gpi-num}
 use Rattle.tables.specs.Format.{reads, reading, gpi}
-use Rattle.tables.specs.Normal.{at, span, In}
+use Rattle.tables.specs.Normal.{at, span}
 use Rattle.tables.specs.Set.{Agrees}
 use Rattle.words.specs.declared.L1Entry.{L1Entry}
 use Rattle.words.specs.declared.L1Entry.the-variants.{Contiguous, Granules, Invalid}
-use Rattle.words.specs.Nibs.{nib}
+use Rattle.nibbles.specs.Nibs.{nib}
 use Rattle.words.specs.L1.{l1Of, readAt, readOf, flat, flatOf, repeated}
 use Rattle.words.specs.Arm.{arm, validOf, sizeOf, levelOf}
 use Rattle.words.proofs.Entries.{nib-repeated, l1-repeated, repeated-lt}

@@ -17,7 +17,7 @@ use Rattle.gpi.specs.declared.Size.the-variants.{MB512}
 use Rattle.pa.specs.declared.PA.{PA}
 use Rattle.pa.specs.Pa.{pa}
 use Rattle.tables.specs.Normal.{at, In}
-use Rattle.words.specs.Nibs.{nibs}
+use Rattle.nibbles.specs.Nibs.{nibs}
 use Rattle.words.specs.declared.L0Entry.the-variants.{Table as TableWord}
 use Rattle.words.specs.declared.L1Entry.the-variants.{Contiguous}
 use Rattle.words.specs.L0.{l0Of}

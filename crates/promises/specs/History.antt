@@ -11,23 +11,21 @@ use lib.Dec.{eqb, ltb}
 use Rattle.gpi.specs.declared.Nibble.{Nibble}
 use Rattle.gpi.specs.declared.Nibble.the-variants.{Known, Reserved}
 use Rattle.gpi.specs.Gpi.{gpiAt}
-use Rattle.tables.specs.Stores.{cut}
-use Rattle.tables.specs.Events.{readLog}
-use Rattle.tables.specs.Set.{lead}
 use Rattle.tables.specs.Whole.{Whole}
 use Rattle.words.specs.Arm.{arm}
 use Rattle.config.specs.declared.Config.{Config}
 use Rattle.config.specs.declared.Widths.{Widths}
 use Rattle.config.specs.Index.{l0Index, l1Words, granuleBytes}
 use Rattle.place.specs.declared.Place.{Place}
-use Rattle.place.specs.declared.Place.the-variants.{No, Block, Table}
+use Rattle.place.specs.declared.Place.the-variants.{Table}
 use Rattle.place.specs.declared.Site.{Site}
 use Rattle.place.specs.Place.{placeOf, tableOf}
 use Rattle.gpt.specs.declared.Looked.{Looked}
 use Rattle.gpt.specs.declared.Looked.the-variants.{Ok}
 use Rattle.gpt.specs.Lookup.{plain, lookupOf}
-use Rattle.gpt.specs.Set.{Outcome, setOf, changedNumber, changedRecords}
+use Rattle.gpt.specs.Set.{Outcome, setOf, changedNumber}
 use Rattle.mend.specs.Outcome.{mendOf, mendedNumber}
+use Rattle.promises.specs.Demand3.{Answers0or10, cutArena, granuleStoreAfter}
 
 -- what stays: the configuration and the widths that it means, the lent L0 words, the arena's base
 pub record Lent : Type 0 where
@@ -65,7 +63,7 @@ change q A r = setOf (q .config) (q .l0) A (q .base) (r .log) (r .address) (r .g
 -- the arena after it; of a cut set, with the first k stores made that its log tells
 abbrev pub acted : Lent → Act → List ℕ → List ℕ
 acted q (sets r) A = change q A r .arena
-acted q (cuts r k) A = cut k A (readLog (changedRecords (change q A r .answer)) (change q A r .log))
+acted q (cuts r k) A = cutArena k A (change q A r)
 acted q (mends x n) A = mendOf (q .config) (q .l0) A (q .base) x n .arena
 
 -- which L0 entries' tables are then known to be whole: a finished set leaves that as it was; a cut makes the table doubtful, and so does a mend
@@ -82,16 +80,10 @@ abbrev pub made : Widths → ℕ → Nibble → (ℕ → Looked) → ℕ → Loo
 made w x (Known g) f y = cond (eqb (y / granuleBytes w) (x / granuleBytes w)) (Ok g) (f y)
 made w x Reserved f y = f y
 
--- how many stores of a set stand before its granule store
-abbrev pub before : List ℕ → Place → ℕ
-before A (No r) = 0
-before A (Block g) = 0
-before A (Table s) = lead arm (s .unit) (tableOf s A) (s .index)
-
--- the ideal changes at the target granule, and exactly when the granule store is made
+-- the ideal changes at the target granule, and exactly when the granule store is made: of a cut set, where its log has it
 abbrev pub actIdeal : Lent → Act → List ℕ → (ℕ → Looked) → ℕ → Looked
 actIdeal q (sets r) A f y = made (q .widths) (r .address) (gpiAt (r .gpi)) f y
-actIdeal q (cuts r k) A f y = cond (ltb (before A (placed q A (r .address))) k) (made (q .widths) (r .address) (gpiAt (r .gpi)) f y) (f y)
+actIdeal q (cuts r k) A f y = cond (ltb (granuleStoreAfter (change q A r)) k) (made (q .widths) (r .address) (gpiAt (r .gpi)) f y) (f y)
 actIdeal q (mends x n) A f y = f y
 
 -- ---- one after the other
@@ -122,7 +114,7 @@ acts q (a ∷ l) S = acts q l (act q a S)
 -- a set, cut or not, is one that answers 0 or 10, of an address whose L0 entry is marked
 pub record Aimed (q : Lent) (S : State) (r : Request) : Type 0 where
   pub is-marked : S .marks (l0Index (q .widths) (r .address)) ≡ true
-  pub answers : (changedNumber (change q (S .arena) r .answer) ≡ 0) ⊎ (changedNumber (change q (S .arena) r .answer) ≡ 10)
+  pub answers : Answers0or10 (changedNumber (change q (S .arena) r .answer))
 
 -- a mend is of any address and any limit
 abbrev pub May : Lent → State → Act → Type 0

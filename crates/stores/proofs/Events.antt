@@ -1,14 +1,14 @@
 -- Laws of `Done` and `Room`: no event, one event, events after events; what stays of the lengths, and the room that is left.
 -- Assumes nothing.
-use mathlib.Core.Path.{_≡_, refl, sym, ap, _∙_}
+use mathlib.Core.Path.{_≡_, refl, ap, _∙_}
 use mathlib.Core.List.{List, [], _∷_, _++_, append-nil}
 use Prim.Native.Nat.{ℕ, zero, suc, _+_, _*_, _≤_, _<_}
 use native.Mathlib.Nat.{add-zero}
 use native.Mathlib.Omega.{arith}
 use lib.ListN.{length, length-append}
 use lib.Seq.{sets}
-use Rattle.tables.specs.Stores.{Store, apply, fill, Each, Inside}
-use Rattle.tables.specs.Events.{Event, filled as Filled, granule, storesOf, stores, countOf, count, recordOf, records, logged}
+use Rattle.tables.specs.Stores.{apply, fill, Inside}
+use Rattle.tables.specs.Events.{Event, filled as Filled, storesOf, stores, countOf, count, recordOf, records, logged}
 use Rattle.tables.specs.Set.{fillEvent}
 use Rattle.tables.proofs.Events.{stores-append, logged-append, length-logged}
 use Rattle.tables.proofs.Set.{count-append}

@@ -1,20 +1,16 @@
 -- Where ranges lie: each range around the index is in the 512 MB range, and how a range is cut at the part that holds the index.
 -- Assumes nothing.
-use mathlib.Core.Path.{_≡_, refl, sym, ap, _∙_}
+use mathlib.Core.Path.{_≡_}
 use mathlib.Core.List.{List}
-use Prim.Native.Nat.{ℕ, zero, suc, _+_, _-_, _*_, _≤_, _<_, _^_}
+use Prim.Native.Nat.{ℕ, zero, suc, _+_, _-_, _*_, _≤_, _<_}
 use native.Mathlib.Nat.{div-mul-le-self, le-trans, le-refl}
 use native.Mathlib.Omega.{arith}
 use lib.ListN.{length}
-use Rattle.gpi.specs.declared.Size.{Size}
 use Rattle.tables.specs.Normal.{span, base}
-use Rattle.tables.proofs.Ranges.{span-pos, base-lo, base-hi}
-use Rattle.words.specs.Arm.{levelOf}
-use Rattle.words.proofs.Arm.{level-lt}
+use Rattle.tables.proofs.Ranges.{span-pos, base-hi}
 use Rattle.tables.specs.Events.{Event}
 use Rattle.stores.specs.declared.Tally.{Tally}
-use Rattle.stores.specs.Done.{Done}
-use Rattle.stores.specs.Table.{Placed}
+use Rattle.stores.specs.Done.{Done, Room, Placed}
 use Rattle.stores.proofs.Events.{kept-table}
 
 -- each level's range around i ends within the largest
@@ -25,12 +21,17 @@ level-in u i (suc zero) h = base-hi (16 * u) i
 level-in u i (suc (suc zero)) h = le-refl _
 level-in u i (suc (suc (suc l))) h = absurd (omega arith)
 
+-- and has no more words
+pub level-least : (u l : ℕ) → l < 3 → span u l ≤ span u 2
+unfolding span
+level-least u zero h = omega arith
+level-least u (suc zero) h = omega arith
+level-least u (suc (suc zero)) h = omega arith
+level-least u (suc (suc (suc l))) h = absurd (omega arith)
+
 level-most : (u l : ℕ) → u ≤ 32 → l < 3 → span u l ≤ 8192
 unfolding span
-level-most u zero h k = omega arith
-level-most u (suc zero) h k = omega arith
-level-most u (suc (suc zero)) h k = omega arith
-level-most u (suc (suc (suc l))) h k = absurd (omega arith)
+level-most u l h k = let m : span u l ≤ span u 2 = level-least u l k in omega arith
 
 -- where the range of n words around i lies
 pub record Lies (t : List ℕ) (i n : ℕ) : Type 0 where
@@ -53,3 +54,7 @@ pub still : {o i u : ℕ} {es : List Event} {t t′ l l′ : List ℕ} {a b : Ta
 still d p =
     let e = kept-table d in
     record { least = p .least; most = p .most; index = omega (arith, e, p .index); inside = omega (arith, e, p .inside); small = omega (arith, e, p .small) }
+
+-- what a fill asks
+abbrev pub Fills : List ℕ → List ℕ → ℕ → Tally → ℕ → ℕ → Type 0
+Fills T L o a at n = (at + n ≤ length T) × Room T L o a 1 n

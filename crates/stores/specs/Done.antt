@@ -5,6 +5,7 @@ use mathlib.Core.Path.{_≡_}
 use mathlib.Core.List.{List}
 use Prim.Native.Nat.{ℕ, _+_, _*_, _≤_, _<_, _^_}
 use lib.ListN.{length}
+use Rattle.tables.specs.Normal.{span, base}
 use Rattle.tables.specs.Stores.{apply, Inside}
 use Rattle.tables.specs.Events.{Event, stores, count, logged}
 use Rattle.stores.specs.declared.Tally.{Tally}
@@ -25,3 +26,13 @@ pub record Room (t l : List ℕ) (o : ℕ) (a : Tally) (k n : ℕ) : Type 0 wher
 
 abbrev pub fresh : Tally
 fresh = record { records = 0; stores = 0 }
+
+-- ---- what a job asks of its table
+
+-- the index's aligned 512 MB range lies in the table, and there are 2, 8 or 32 words to 2 MB
+pub record Placed (t : List ℕ) (i u : ℕ) : Type 0 where
+  pub least : 1 ≤ u
+  pub most : u ≤ 32
+  pub index : i < length t
+  pub inside : base (span u 2) i + span u 2 ≤ length t
+  pub small : length t < 2 ^ 62

@@ -1,26 +1,15 @@
-// The stores of a set on one L1 table: the fill and the granule store with their records, barriers, shatter, scans, fuse, and the set itself.
-// From gpt.rs: `fill_descs`, `shatter_contig`, `can_fuse`, `fuse_descriptors`, `fuse`, and the second half of `set`.
+// The two routines that store, each with its record, and the barriers. From gpt.rs: `fill_descs`, and the store and the barriers of `set`.
 // A set writes its table only in `fill_descs` and in `store_granule`; each makes its own record with its words.
 ghost use mathlib.Core.Path.{_≡_};
-ghost use mathlib.Core.List.{List, [], _∷_, _++_};
-ghost use Prim.Native.Nat.{ℕ, _+_, _*_, _≤_, _<_, _^_};
+ghost use mathlib.Core.List.{List, [], _∷_};
+ghost use Prim.Native.Nat.{ℕ, _+_, _*_, _≤_, _<_};
 ghost use lib.ListN.{length};
 ghost use lib.Seq.{sets};
-ghost use Rattle.gpi.specs.Gpi.{num};
-ghost use Rattle.gpi.specs.Size.{bytesOf};
-ghost use Rattle.tables.specs.Normal.{at as wordAt, span as spanOf, base as baseOf};
 ghost use Rattle.tables.specs.Events.{granule as granuleStored};
-ghost use Rattle.tables.specs.Set.{fillEvent, barriers as barriersOf, shatter, scan, climb, nowhere, fused};
-ghost use Rattle.words.specs.Arm.{arm, levelOf};
-ghost use Rattle.words.specs.L1.{put};
-ghost use Rattle.stores.specs.Done.{Done, Room, fresh};
-ghost use Rattle.stores.specs.Table.{seen, fusedOf, answerOf, Cuts, Placed, Granted, Made, setTableOf};
+ghost use Rattle.tables.specs.Set.{fillEvent, barriers as barriersOf};
+ghost use Rattle.stores.specs.Done.{Done, Room};
 use gpi::Gpi;
-use gpi::Size;
-use gpi::SizeCode;
 use pa::PA;
-use words::L1Entry;
-use words::Match;
 
 // Records and stores so far.
 pub struct Tally {
@@ -38,19 +27,6 @@ pub struct Job {
     pub gpi: Gpi,
     pub address: PA,
     pub grain: u64,
-}
-
-// What the scans came to: no range, the largest that matched, or an invalid word.
-pub enum Matched {
-    Nowhere,
-    At(Size),
-    Refused,
-}
-
-pub enum Answer {
-    Done(Tally),
-    Stopped(Tally),
-    Invalid,
 }
 
 // Record n of the log.
@@ -130,194 +106,5 @@ pub fn barriers(log: &mut [u64], t: Tally, address: PA, bytes: u64) -> Tally
     Tally {
         records: n + 3,
         stores: t.stores,
-    }
-}
-
-// How a range around an index is cut at the part that holds it: the fill before, and the fill after.
-struct Cut {
-    low: usize,
-    before: usize,
-    high: usize,
-    after: usize,
-}
-
-fn cut_at(index: usize, part: usize) -> Cut
-    requires { ⌜ (0 < part) × (part ≤ 512) × (index < 2 ^ 62) ⌝ }
-    ensures { λ r. ⌜ Cuts index part r ⌝ }
-{
-    let whole = 16 * part;
-    let low = index / whole * whole;
-    let inner = index / part * part;
-    let high = inner + part;
-    Cut {
-        low,
-        before: inner - low,
-        high,
-        after: low + whole - high,
-    }
-}
-
-// The range of a size around the index, whose GPI is g throughout, refilled at the next smaller size but for the part that holds the index:
-// that part by the same rule.
-pub fn shatter_contig(
-    table: &mut [u64],
-    log: &mut [u64],
-    t: Tally,
-    q: Job,
-    size: Size,
-    g: Gpi,
-) -> Tally
-    requires { ⌜ Placed (now table) (q .index) (q .unit) ⌝ }
-    requires { ⌜ Room (now table) (now log) (q .offset) t (1 + 2 * levelOf size) (spanOf (q .unit) (levelOf size)) ⌝ }
-    ensures { λ r. ⌜ Done (q .offset) (shatter arm (q .unit) (num g) (q .index) (levelOf size)) (now (table .entry)) (now (table .exit)) (now (log .entry)) (now (log .exit)) t r ⌝ }
-{
-    let offset = q.offset;
-    let index = q.index;
-    let unit = q.unit;
-    let SizeCode::Is(smaller) = gpi::next_smaller(size) else {
-        return fill_descs(
-            table,
-            log,
-            t,
-            offset,
-            index / unit * unit,
-            unit,
-            words::granule([g; 16]),
-        );
-    };
-    let c = cut_at(index, words::span(unit, smaller));
-    let word = words::contig(smaller, g);
-    let a = fill_descs(table, log, t, offset, c.low, c.before, word);
-    let b = shatter_contig(table, log, a, q, smaller, g);
-    fill_descs(table, log, b, offset, c.high, c.after, word)
-}
-
-// A contiguous entry broken up, with its barriers.
-fn break_up(table: &mut [u64], log: &mut [u64], q: Job, size: Size, g: Gpi) -> Tally
-    requires { ⌜ Placed (now table) (q .index) (q .unit) ⌝ }
-    requires { ⌜ Room (now table) (now log) (q .offset) fresh 8 (spanOf (q .unit) 2) ⌝ }
-    ensures { λ r. ⌜ Done (q .offset) (shatter arm (q .unit) (num g) (q .index) (levelOf size) ++ barriersOf (q .address .0) (bytesOf size)) (now (table .entry)) (now (table .exit)) (now (log .entry)) (now (log .exit)) fresh r ⌝ }
-{
-    let t = Tally {
-        records: 0,
-        stores: 0,
-    };
-    let a = shatter_contig(table, log, t, q, size, g);
-    let address = q.address;
-    barriers(log, a, address, gpi::size_bytes(size))
-}
-
-// Whether the aligned range of some words around the index is all of one GPI: its words from the lowest on, up to the first that isn't.
-pub fn can_fuse(table: &[u64], index: usize, words: usize, g: Gpi) -> Match
-    requires { ⌜ 0 < words ⌝ }
-    requires { ⌜ baseOf words index + words ≤ length (now table) ⌝ }
-    ensures { λ r. ⌜ r ≡ seen (scan arm (wordAt (now (table .entry))) (num g) (baseOf words index) words) ⌝ }
-{
-    let mut k = index / words * words;
-    let end = k + words;
-    while k < end {
-        match words::matches_gpi(table[k], g) {
-            Match::Same => {
-                k += 1;
-            }
-            Match::Other => {
-                return Match::Other;
-            }
-            Match::Bad => {
-                return Match::Bad;
-            }
-        }
-    }
-    Match::Same
-}
-
-// The largest range around the index that is all of one GPI: each size only if the one below matched.
-pub fn fuse_descriptors(table: &[u64], index: usize, unit: usize, g: Gpi) -> Matched
-    requires { ⌜ Placed (now table) index unit ⌝ }
-    ensures { λ r. ⌜ fusedOf r ≡ climb arm unit (wordAt (now (table .entry))) (num g) index 0 nowhere 3 ⌝ }
-{
-    match can_fuse(table, index, words::span(unit, Size::MB2), g) {
-        Match::Bad => Matched::Refused,
-        Match::Other => Matched::Nowhere,
-        Match::Same => match can_fuse(table, index, words::span(unit, Size::MB32), g) {
-            Match::Bad => Matched::Refused,
-            Match::Other => Matched::At(Size::MB2),
-            Match::Same => match can_fuse(table, index, words::span(unit, Size::MB512), g) {
-                Match::Bad => Matched::Refused,
-                Match::Other => Matched::At(Size::MB32),
-                Match::Same => Matched::At(Size::MB512),
-            },
-        },
-    }
-}
-
-// The range that matched, filled with its contiguous word.
-pub fn fuse(table: &mut [u64], log: &mut [u64], t: Tally, q: Job, m: Matched) -> Tally
-    requires { ⌜ Placed (now table) (q .index) (q .unit) ⌝ }
-    requires { ⌜ Room (now table) (now log) (q .offset) t 1 (spanOf (q .unit) 2) ⌝ }
-    ensures { λ r. ⌜ Done (q .offset) (fused arm (q .unit) (num (q .gpi)) (q .index) (fusedOf m)) (now (table .entry)) (now (table .exit)) (now (log .entry)) (now (log .exit)) t r ⌝ }
-{
-    match m {
-        Matched::Nowhere => t,
-        Matched::At(size) => {
-            let index = q.index;
-            let g = q.gpi;
-            let words = words::span(q.unit, size);
-            let word = words::contig(size, g);
-            fill_descs(table, log, t, q.offset, index / words * words, words, word)
-        }
-        Matched::Refused => t,
-    }
-}
-
-fn answer_of(m: Matched, t: Tally) -> Answer
-    ensures { λ r. ⌜ r ≡ answerOf (fusedOf m) t ⌝ }
-{
-    match m {
-        Matched::Nowhere => Answer::Done(t),
-        Matched::At(_) => Answer::Done(t),
-        Matched::Refused => Answer::Stopped(t),
-    }
-}
-
-// The set from its granule store on, in a word of granules.
-fn set_granule(table: &mut [u64], log: &mut [u64], t: Tally, q: Job) -> Answer
-    requires { ⌜ Placed (now table) (q .index) (q .unit) ⌝ }
-    requires { ⌜ q .granule < 16 ⌝ }
-    requires { ⌜ Room (now table) (now log) (q .offset) t 5 (1 + spanOf (q .unit) 2) ⌝ }
-    ensures { λ r. ⌜ Granted q (now (table .entry)) (now (table .exit)) (now (log .entry)) (now (log .exit)) t r ⌝ }
-{
-    let i = q.index;
-    let g = q.gpi;
-    let address = q.address;
-    let w = words::set_gpi(table[i], q.granule, g);
-    let a = store_granule(table, log, t, q.offset, i, q.granule, w);
-    let b = barriers(log, a, address, q.grain);
-    let m = fuse_descriptors(&table[..], i, q.unit, g);
-    let c = fuse(table, log, b, q, m);
-    answer_of(m, c)
-}
-
-// A set of one table.
-pub fn set_table(table: &mut [u64], log: &mut [u64], q: Job) -> Answer
-    requires { ⌜ Placed (now table) (q .index) (q .unit) ⌝ }
-    requires { ⌜ q .granule < 16 ⌝ }
-    requires { ⌜ Room (now table) (now log) (q .offset) fresh 13 (2 * spanOf (q .unit) 2 + 1) ⌝ }
-    ensures { λ r. ⌜ Made (setTableOf q (now (table .entry)) (now (log .entry))) r (now (table .exit)) (now (log .exit)) ⌝ }
-{
-    let i = q.index;
-    match words::l1_entry(table[i]) {
-        L1Entry::Contiguous(h, size) => {
-            let t = break_up(table, log, q, size, h);
-            set_granule(table, log, t, q)
-        }
-        L1Entry::Granules => {
-            let t = Tally {
-                records: 0,
-                stores: 0,
-            };
-            set_granule(table, log, t, q)
-        }
-        L1Entry::Invalid => Answer::Invalid,
     }
 }

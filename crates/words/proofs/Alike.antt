@@ -15,11 +15,11 @@ use Rattle.gpi.specs.declared.Size.{Size}
 use Rattle.gpi.specs.Gpi.{num, gpiAt, isKnown, knownAt}
 use Rattle.gpi.proofs.Rules.{num-lt, num-at, gpi-num}
 use Rattle.gpi.proofs.Table.{and-both}
-use Rattle.words.specs.Nibs.{nib, nibs, word, all}
+use Rattle.nibbles.specs.Nibs.{nib, nibs, word, all}
 use Rattle.words.specs.L1.{l1Of, granulesOf, readAt, readOf, contigWord, repeated, put, flat, flatOf}
 use Rattle.words.specs.declared.L1Entry.{L1Entry}
 use Rattle.words.specs.declared.L1Entry.the-variants.{Contiguous, Granules, Invalid}
-use Rattle.words.proofs.Digits.{length-nibs, getD-nibs, word-nibs}
+use Rattle.nibbles.proofs.Digits.{length-nibs, getD-nibs, word-nibs}
 use Rattle.words.proofs.Store.{nibs-put, put-same, put-other}
 use Rattle.words.proofs.Entries.{l1-untagged, l1-granules, granules-known, l1-contig, l1-repeated, nib-repeated, repeated-lt}
 

@@ -19,14 +19,14 @@ use Rattle.gpi.specs.Size.{sizeNum}
 use Rattle.gpi.proofs.Rules.{num-at, num-lt, gpi-num, size-lt}
 use Rattle.gpi.proofs.Table.{and-both}
 use Rattle.tables.specs.Format.{Format, Laws, reads}
-use Rattle.words.specs.Nibs.{nib, nibs, word, all}
+use Rattle.nibbles.specs.Nibs.{nib, nibs, word, all}
 use Rattle.words.specs.L1.{l1Of, contigWord, repeated, put, flat, flatOf, matchAt, matchOf, sameOf, granuleWord}
 use Rattle.words.specs.Arm.{validOf, sizeOf, levelOf, contigAt, arm}
 use Rattle.words.specs.declared.Match.{Match}
 use Rattle.words.specs.declared.Match.the-variants.{Same, Other, Bad}
 use Rattle.words.specs.declared.L1Entry.{L1Entry}
 use Rattle.words.specs.declared.L1Entry.the-variants.{Contiguous, Granules, Invalid}
-use Rattle.words.proofs.Digits.{nibs-step, alike16, repeat16}
+use Rattle.nibbles.proofs.Digits.{nibs-step, alike16, repeat16}
 use Rattle.words.proofs.Store.{put-same, put-other}
 use Rattle.words.proofs.Entries.{granules-known, l1-contig, l1-repeated, nib-repeated}
 use Rattle.words.proofs.Alike.{coarse, l1-flat, flat-idem, flat-contig, put-granules}

@@ -6,7 +6,7 @@ use Rattle.gpi.specs.declared.Gpi.the-variants.{Root, Realm, NonSecure}
 use Rattle.gpi.specs.declared.Nibble.the-variants.{Known, Reserved}
 use Rattle.gpi.specs.declared.Size.the-variants.{MB32, MB512}
 use Rattle.pa.specs.Pa.{pa}
-use Rattle.words.specs.Nibs.{nibs, word}
+use Rattle.nibbles.specs.Nibs.{nibs, word}
 use Rattle.words.specs.L0.{l0Of, blockWord, tableWordOf, tableNumber, tableValue}
 use Rattle.words.specs.L1.{l1Of, contigWord, flat, put, readAt, matchAt}
 use Rattle.words.specs.declared.L0Entry.the-variants.{Block, Table, Invalid as Neither}

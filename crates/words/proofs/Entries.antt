@@ -3,7 +3,7 @@
 use mathlib.Core.Path.{_≡_, refl, sym, ap, ap₂, _∙_}
 use mathlib.Core.List.{List}
 use mathlib.Core.Bool.{Bool, true, false}
-use Prim.Native.Nat.{ℕ, _+_, _*_, _/_, _%_, _^_, _<_}
+use Prim.Native.Nat.{ℕ, zero, suc, _+_, _*_, _/_, _%_, _^_, _<_, _≤_}
 use native.Mathlib.Decide.{ℕ-discrete}
 use native.Mathlib.Nat.{mod-eq-of-lt}
 use native.Mathlib.Omega.{arith}
@@ -14,6 +14,7 @@ use Rattle.gpi.specs.declared.Gpi.{Gpi}
 use Rattle.gpi.specs.declared.Nibble.{Nibble}
 use Rattle.gpi.specs.declared.Nibble.the-variants.{Known, Reserved}
 use Rattle.gpi.specs.declared.Size.{Size}
+use Rattle.gpi.specs.declared.Size.the-variants.{MB2, MB32, MB512}
 use Rattle.gpi.specs.declared.SizeCode.{SizeCode}
 use Rattle.gpi.specs.declared.SizeCode.the-variants.{Is, None}
 use Rattle.gpi.specs.Gpi.{num, gpiAt, isKnown, knownAt}
@@ -21,13 +22,13 @@ use Rattle.gpi.specs.Size.{sizeNum, sizeAt}
 use Rattle.gpi.proofs.Rules.{num-lt, gpi-num, size-num, size-lt}
 use Rattle.gpi.proofs.Table.{and-both}
 use Rattle.pa.specs.Pa.{pa}
-use Rattle.words.specs.Nibs.{nib, nibs, all}
+use Rattle.nibbles.specs.Nibs.{nib, nibs, all}
 use Rattle.words.specs.L0.{l0Of, blockOf, blockWord, tableWordOf}
 use Rattle.words.specs.L1.{l1Of, contiguousOf, granulesOf, contigWord, repeated}
 use Rattle.words.specs.declared.L0Entry.the-variants.{Block, Table}
 use Rattle.words.specs.declared.TableWord.the-variants.{Word, Refused}
 use Rattle.words.specs.declared.L1Entry.the-variants.{Contiguous, Granules, Invalid}
-use Rattle.words.proofs.Digits.{repeat16, nibs-replicate, getD-nibs, all-replicate, walk-miss}
+use Rattle.nibbles.proofs.Digits.{repeat16, nibs-replicate, getD-nibs, all-replicate, walk-miss}
 
 -- ---- L1: by the low nibble
 
@@ -38,6 +39,26 @@ l1-tagged w h = rw (eq-eqb (w % 16) 1 h)
 pub l1-untagged : (w : ℕ) → (w % 16 ≡ 1 → ⊥) → l1Of w ≡ granulesOf (all knownAt (nibs 16 w))
 unfolding l1Of
 l1-untagged w h = rw (ne-eqb (w % 16) 1 h)
+
+-- a contiguous word with no size is invalid, and any other has some size
+pub l1-unsized : (w : ℕ) → w % 16 ≡ 1 → w % 1024 < 256 → l1Of w ≡ Invalid
+l1-unsized w t h =
+    let z : w / 256 % 4 ≡ 0 = omega arith in
+    l1-tagged w t ∙ ap (λ (k : ℕ). contiguousOf (gpiAt (w / 16 % 16)) (sizeAt k)) z ∙ none (gpiAt (w / 16 % 16))
+  where
+    none : (n : Nibble) → contiguousOf n None ≡ Invalid
+    none (Known g) = refl
+    none Reserved = refl
+
+pub l1-sized : (w : ℕ) → w % 16 ≡ 1 → 256 ≤ w % 1024 → (s : Size) × (l1Of w ≡ contiguousOf (gpiAt (w / 16 % 16)) (Is s))
+l1-sized w t h = let e = some (w / 256 % 4) (omega arith) (omega arith) in (e .0, l1-tagged w t ∙ ap (contiguousOf (gpiAt (w / 16 % 16))) (e .1))
+  where
+    some : (k : ℕ) → 1 ≤ k → k < 4 → (s : Size) × (sizeAt k ≡ Is s)
+    some zero l h = absurd (omega arith)
+    some (suc zero) l h = (MB2, refl)
+    some (suc (suc zero)) l h = (MB32, refl)
+    some (suc (suc (suc zero))) l h = (MB512, refl)
+    some (suc (suc (suc (suc k)))) l h = absurd (omega arith)
 
 -- nibble 1 is reserved, so the two kinds of word never meet
 low-known : (w : ℕ) → all knownAt (nibs 16 w) ≡ true → w % 16 ≡ 1 → ⊥

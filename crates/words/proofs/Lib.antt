@@ -1,4 +1,3 @@
-pub mod Digits
 pub mod Store
 pub mod Entries
 pub mod Packed
@@ -6,3 +5,4 @@ pub mod Alike
 pub mod Cases
 pub mod Arm
 pub mod Tables
+pub mod Sizes

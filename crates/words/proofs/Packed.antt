@@ -16,10 +16,10 @@ use Rattle.gpi.specs.declared.Nibble.the-variants.{Known, Reserved}
 use Rattle.gpi.specs.Gpi.{num, gpiAt, isKnown, knownAt}
 use Rattle.gpi.proofs.Rules.{num-lt, num-at, gpi-num}
 use Rattle.gpi.proofs.Table.{and-both}
-use Rattle.words.specs.Nibs.{nibs, word, all}
+use Rattle.nibbles.specs.Nibs.{nibs, word, all}
 use Rattle.words.specs.L1.{l1Of, granuleWord, gpisOf, orNoAccess}
 use Rattle.words.specs.declared.L1Entry.the-variants.{Granules}
-use Rattle.words.proofs.Digits.{Small, nibs-step, word-lt, nibs-word, word-nibs}
+use Rattle.nibbles.proofs.Digits.{Small, nibs-step, word-lt, nibs-word, word-nibs}
 use Rattle.words.proofs.Entries.{l1-granules, granules-known}
 
 small-nums : (l : List Gpi) → Small (map num l)

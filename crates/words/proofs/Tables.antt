@@ -14,7 +14,7 @@ use Rattle.tables.specs.Whole.{Whole}
 use Rattle.tables.proofs.Normal.{the-one}
 use Rattle.tables.proofs.Mend.{mends-then}
 use Rattle.tables.proofs.Whole.{granules, stopped-not-whole}
-use Rattle.words.specs.Nibs.{nibs}
+use Rattle.nibbles.specs.Nibs.{nibs}
 use Rattle.words.specs.L1.{l1Of}
 use Rattle.words.specs.Arm.{arm}
 use Rattle.words.proofs.Arm.{arm-laws}

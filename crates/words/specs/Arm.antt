@@ -8,7 +8,7 @@ use Rattle.gpi.specs.declared.Size.the-variants.{MB2, MB32, MB512}
 use Rattle.gpi.specs.Gpi.{knownAt}
 use Rattle.gpi.specs.Size.{sizeNum}
 use Rattle.tables.specs.Format.{Format}
-use Rattle.words.specs.Nibs.{nib}
+use Rattle.nibbles.specs.Nibs.{nib}
 use Rattle.words.specs.L1.{l1Of, repeated, put, flat}
 use Rattle.words.specs.declared.L1Entry.{L1Entry}
 use Rattle.words.specs.declared.L1Entry.the-variants.{Contiguous, Granules, Invalid}

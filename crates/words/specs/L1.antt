@@ -14,7 +14,7 @@ use Rattle.gpi.specs.declared.SizeCode.{SizeCode}
 use Rattle.gpi.specs.declared.SizeCode.the-variants.{Is, None}
 use Rattle.gpi.specs.Gpi.{num, gpiAt, knownAt}
 use Rattle.gpi.specs.Size.{sizeNum, sizeAt}
-use Rattle.words.specs.Nibs.{nib, nibs, word, all}
+use Rattle.nibbles.specs.Nibs.{nib, nibs, word, all}
 use Rattle.words.specs.declared.L1Entry.{L1Entry}
 use Rattle.words.specs.declared.L1Entry.the-variants.{Contiguous, Granules, Invalid}
 use Rattle.words.specs.declared.Match.{Match}

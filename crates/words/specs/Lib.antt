@@ -1,4 +1,3 @@
-pub mod Nibs
 pub mod L0
 pub mod L1
 pub mod Arm

@@ -2,9 +2,9 @@
 ghost use mathlib.Core.Path.{_≡_};
 ghost use Prim.Native.Nat.{_<_, _≤_};
 ghost use lib.Dec.{eqb};
-ghost use Rattle.gpi.specs.Gpi.{num, gpiAt, knownAt};
+ghost use Rattle.gpi.specs.Gpi.{num, gpiAt};
 ghost use Rattle.tables.specs.Normal.{span as spanOf};
-ghost use Rattle.words.specs.Nibs.{nib, nibs, all};
+ghost use Rattle.nibbles.specs.Nibs.{nib, nibs, all};
 ghost use Rattle.words.specs.Arm.{levelOf};
 ghost use Rattle.words.specs.L0.{l0Of, blockWord, tableWordOf};
 ghost use Rattle.words.specs.L1.{l1Of, readAt, matchAt, contigWord, granuleWord, gpisOf, put, orNoAccess, sameOf};
@@ -74,25 +74,6 @@ pub fn table(a: PA) -> TableWord
     TableWord::Word(a.0 + 3)
 }
 
-// Whether each of the sixteen nibbles is a GPI's.
-pub fn all_valid(w: u64) -> bool
-    ensures { λ r. ⌜ r ≡ all knownAt (nibs 16 w) ⌝ }
-{
-    let valid = gpi::VALID;
-    let mut v = w;
-    let mut n: u64 = 16;
-    while 0 < n {
-        let i = (v % 16) as usize;
-        if valid[i] {
-            v = v / 16;
-            n -= 1;
-        } else {
-            return false;
-        }
-    }
-    true
-}
-
 pub fn l1_entry(w: u64) -> L1Entry
     ensures { λ r. ⌜ r ≡ l1Of w ⌝ }
 {
@@ -104,7 +85,7 @@ pub fn l1_entry(w: u64) -> L1Entry
             },
             Nibble::Reserved => L1Entry::Invalid,
         }
-    } else if all_valid(w) {
+    } else if nibbles::all_valid(w) {
         L1Entry::Granules
     } else {
         L1Entry::Invalid
@@ -187,7 +168,7 @@ pub fn read(w: u64, i: u64) -> Nibble
         }
         return gpi::gpi_of((w / 16) % 16);
     }
-    if all_valid(w) {
+    if nibbles::all_valid(w) {
         gpi_at(w, i)
     } else {
         Nibble::Reserved
@@ -218,14 +199,28 @@ fn same(yes: bool) -> Match
     if yes { Match::Same } else { Match::Other }
 }
 
-// Whether a word reads this GPI throughout.
+// Whether a word reads this GPI throughout. Not by way of `l1_entry`: a scan wants neither the size nor an entry in memory, and asks the table of
+// nibbles only where the GPIs differ.
 pub fn matches_gpi(w: u64, g: Gpi) -> Match
     ensures { λ r. ⌜ r ≡ matchAt w g ⌝ }
 {
-    match l1_entry(w) {
-        L1Entry::Contiguous(h, _) => same(gpi::number(h) == gpi::number(g)),
-        L1Entry::Granules => same(all_gpi(w, g)),
-        L1Entry::Invalid => Match::Bad,
+    if w % 16 == 1 {
+        if w % 1024 < 256 {
+            return Match::Bad;
+        }
+        let n = (w / 16) % 16;
+        if n == gpi::number(g) {
+            return Match::Same;
+        }
+        if gpi::is_valid(n) {
+            return Match::Other;
+        }
+        return Match::Bad;
+    }
+    if nibbles::all_valid(w) {
+        same(all_gpi(w, g))
+    } else {
+        Match::Bad
     }
 }
 

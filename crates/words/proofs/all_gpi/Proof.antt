@@ -6,8 +6,8 @@ use native.Mathlib.Omega.{arith}
 use borrow.Author.Needs.{needs}
 use borrow.Author.Tests.{eq-eqb, ne-eqb}
 use lib.Dec.{eqb}
-use Rattle.words.specs.Nibs.{nibs, all}
-use Rattle.words.proofs.Digits.{walk-end, walk-miss, walk-hit}
+use Rattle.nibbles.specs.Nibs.{nibs, all}
+use Rattle.nibbles.proofs.Digits.{walk-end, walk-miss, walk-hit}
 use Rattle.words.proofs.all_gpi.Statement.{statement}
 use Rattle.words.proofs.all_gpi.Tie as tie
 

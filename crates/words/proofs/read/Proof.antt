@@ -1,49 +1,30 @@
 -- `words::read` meets its contract: by the low nibble; a contiguous word reads its GPI whatever its size, if it has one.
 -- Assumes nothing.
 use mathlib.Core.Path.{_≡_, refl, sym, ap, _∙_}
-use Prim.Native.Nat.{ℕ, zero, suc, _/_, _%_, _<_, _≤_}
-use native.Mathlib.Omega.{arith}
+use Prim.Native.Nat.{ℕ, _/_, _%_}
 use borrow.Author.Needs.{needs}
 use Rattle.gpi.specs.declared.Nibble.{Nibble}
 use Rattle.gpi.specs.declared.Nibble.the-variants.{Known, Reserved}
-use Rattle.gpi.specs.declared.SizeCode.the-variants.{Is, None}
+use Rattle.gpi.specs.declared.SizeCode.the-variants.{Is}
 use Rattle.gpi.specs.declared.Size.{Size}
 use Rattle.gpi.specs.Gpi.{gpiAt}
-use Rattle.gpi.specs.Size.{sizeAt}
 use Rattle.words.specs.declared.L1Entry.{L1Entry}
 use Rattle.words.specs.L1.{readOf, contiguousOf, granulesOf}
-use Rattle.words.proofs.Entries.{l1-tagged, l1-untagged}
+use Rattle.words.proofs.Entries.{l1-unsized, l1-sized, l1-untagged}
 use Rattle.words.proofs.read.Statement.{statement}
 use Rattle.words.proofs.read.Tie as tie
-
-module _ (w i : ℕ) where
-  sized : (n : Nibble) (s : Size) → n ≡ readOf (contiguousOf n (Is s)) w i
-  sized (Known g) s = refl
-  sized Reserved s = refl
-
-  unsized : (n : Nibble) → Reserved ≡ readOf (contiguousOf n None) w i
-  unsized (Known g) = refl
-  unsized Reserved = refl
-
-  -- by the size code
-  no-size : (k : ℕ) → k < 1 → (n : Nibble) → Reserved ≡ readOf (contiguousOf n (sizeAt k)) w i
-  no-size zero h n = unsized n
-  no-size (suc k) h n = absurd (omega arith)
-
-  a-size : (k : ℕ) → 1 ≤ k → k < 4 → (n : Nibble) → n ≡ readOf (contiguousOf n (sizeAt k)) w i
-  a-size zero l h n = absurd (omega arith)
-  a-size (suc zero) l h n = sized n _
-  a-size (suc (suc zero)) l h n = sized n _
-  a-size (suc (suc (suc zero))) l h n = sized n _
-  a-size (suc (suc (suc (suc k)))) l h n = absurd (omega arith)
 
 abbrev reads : ℕ → ℕ → L1Entry → Nibble
 reads w i e = readOf e w i
 
+sized : (n : Nibble) (s : Size) (w i : ℕ) → n ≡ readOf (contiguousOf n (Is s)) w i
+sized (Known g) s w i = refl
+sized Reserved s w i = refl
+
 returns : tie.Need-returns
 returns c =
     let a = c .before .before .args in
-    no-size (a .w) (a .i) (a .w / 256 % 4) (let h = c .if2 .taken in omega arith) (gpiAt (a .w / 16 % 16)) ∙ sym (ap (reads (a .w) (a .i)) (l1-tagged _ (c .before .if1 .taken)))
+    sym (ap (reads (a .w) (a .i)) (l1-unsized (a .w) (c .before .if1 .taken) (c .if2 .taken)))
 
 gpi-of-requires : tie.Need-gpi-of-requires
 gpi-of-requires c κs = search needs
@@ -51,8 +32,8 @@ gpi-of-requires c κs = search needs
 returns-2 : tie.Need-returns-2
 returns-2 c =
     let a = c .before .before .before .args in
-    c .gpi-of .ensures ∙ a-size (a .w) (a .i) (a .w / 256 % 4) (let h = c .before .if2 .left in omega arith) (omega arith) (gpiAt (a .w / 16 % 16))
-    ∙ sym (ap (reads (a .w) (a .i)) (l1-tagged _ (c .before .before .if1 .taken)))
+    let e = l1-sized (a .w) (c .before .before .if1 .taken) (c .before .if2 .left) in
+    c .gpi-of .ensures ∙ sized (gpiAt (a .w / 16 % 16)) (e .0) (a .w) (a .i) ∙ sym (ap (reads (a .w) (a .i)) (e .1))
 
 all-valid-requires : tie.Need-all-valid-requires
 all-valid-requires c κs = search needs

@@ -1,0 +1,51 @@
+-- `stores::cut_at` meets its contract: the part that holds the index lies in the whole.
+-- Assumes nothing.
+use Prim.Native.Nat.{_*_, _≤_}
+use native.Mathlib.Nat.{div-mul-le-self}
+use native.Mathlib.Omega.{arith}
+use Rattle.tables.specs.Normal.{base}
+use Rattle.tables.proofs.Ranges.{base-lo, base-hi}
+use borrow.Author.Needs.{needs}
+use Rattle.shatter.proofs.cut_at.Statement.{statement}
+use Rattle.shatter.proofs.cut_at.Tie as tie
+
+low-most : (c : tie.Start) → base (16 * c .args .part) (c .args .index) ≤ c .args .index
+low-most c = div-mul-le-self (c .args .index) (16 * c .args .part)
+
+inner-most : (c : tie.Start) → base (c .args .part) (c .args .index) ≤ c .args .index
+inner-most c = div-mul-le-self (c .args .index) (c .args .part)
+
+mul-whole : tie.Need-mul-whole
+mul-whole c = search needs
+
+div-low : tie.Need-div-low
+div-low c = search needs
+
+mul-low : tie.Need-mul-low
+mul-low c = let l = low-most c in omega arith
+
+div-inner : tie.Need-div-inner
+div-inner c = search needs
+
+mul-inner : tie.Need-mul-inner
+mul-inner c = let l = inner-most c in omega arith
+
+add-high : tie.Need-add-high
+add-high c = let l = inner-most c in omega arith
+
+sub-t7 : tie.Need-sub-t7
+sub-t7 c = base-lo (c .args .part) (c .args .index)
+
+add-t8 : tie.Need-add-t8
+add-t8 c = let l = low-most c in omega arith
+
+sub-t9 : tie.Need-sub-t9
+sub-t9 c = base-hi (c .args .part) (c .args .index)
+
+returns : tie.Need-returns
+returns c = search needs
+
+pub cut-at-spec : {M : Type 1} → statement M
+cut-at-spec =
+    tie.close
+    (tie.spec mul-whole div-low mul-low div-inner mul-inner add-high sub-t7 add-t8 sub-t9 returns)
