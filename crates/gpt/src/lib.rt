@@ -26,7 +26,7 @@ pub enum Looked {
 }
 
 // A GPI that was read, if it is supported.
-fn grant(c: Config, g: Gpi, r: Refusal) -> Looked
+pub fn grant(c: Config, g: Gpi, r: Refusal) -> Looked
     ensures { λ a. ⌜ a ≡ granted c g r ⌝ }
 {
     if config::is_gpi_supported(c, g) {

@@ -226,8 +226,8 @@ fn seek(l0: &[u64], q: Ask, w: Widths) -> Place
     }
 }
 
-// As `resolve`, for a lookup. It has this one caller, so that the compiler lays it in there: a lookup is then without a call and without a place
-// in memory, which is what makes it no slower than the Rust's.
+// As `resolve`, for a lookup and for the dump's walk. In the C interface a lookup is its one caller, so that the compiler lays it in there: that is
+// then without a call and without a place in memory, which is what makes it no slower than the Rust's.
 pub fn find(l0: &[u64], c: Config, words: usize, base: PA, address: PA) -> Place
     ensures { λ r. ⌜ r ≡ placeOf (seeking c words (base .0) (address .0)) (now (l0 .entry)) ⌝ }
 {

@@ -1,4 +1,5 @@
 pub mod Stretch
 pub mod Near
+pub mod Through
 pub mod Walk
 pub mod Answers

@@ -22,8 +22,14 @@ use Rattle.place.specs.Sited.{Passed}
 use Rattle.place.proofs.Chain.{through}
 use Rattle.gpt.specs.Lookup.{plain, lookedAt, lookupOf}
 use Rattle.runs.specs.declared.Piece.{Piece}
-use Rattle.runs.specs.Runs.{total, bitsOf, Open, Holds}
-use Rattle.runs.proofs.Stretch.{lastOf, last-from, last-same, last-inside, placed}
+use Rattle.runs.specs.Runs.{total, Open, Holds}
+use Rattle.runs.proofs.Stretch.{lastOf, last-from, last-same, last-inside, below-52, placed}
+
+-- the bits of the aligned stretch that a place speaks for
+abbrev bitsOf : Widths → Place → ℕ
+bitsOf w (No r) = w .l0gptsz
+bitsOf w (Block g) = w .l0gptsz
+bitsOf w (Table s) = w .pgs
 
 module _ (c : Config) (L A : List ℕ) (b : ℕ) (w : Widths) (o : Open c L A b w) where
   listed : Listed w
@@ -83,7 +89,7 @@ module _ (c : Config) (L A : List ℕ) (b : ℕ) (w : Widths) (o : Open c L A b 
 
   -- ---- a piece
 
-  pub bits-most : (p : Place) → bitsOf w p ≤ w .pps
+  bits-most : (p : Place) → bitsOf w p ≤ w .pps
   bits-most (No r) = listed .wide
   bits-most (Block g) = listed .wide
   bits-most (Table s) = let k = listed in omega arith
@@ -94,14 +100,17 @@ module _ (c : Config) (L A : List ℕ) (b : ℕ) (w : Widths) (o : Open c L A b 
     same-place x i l (Block g) f j = let k = listed in same-entry a x h l (last-same a (w .l0gptsz) x i j) (Block g) f refl (omega arith)
     same-place x i l (Table s) f j = same-granule a x h l (last-same a (w .pgs) x i j) ∙ f
 
-    pub piece : {p : Piece} → p .answer ≡ lookupOf c L A b a → p .last ≡ lastOf a (bitsOf w (placeOf (plain c A b a) L)) → Holds (lookupOf c L A b) (total w) a p
+    pub low : (a < 2 ^ 52) × (w .l0gptsz ≤ 52) × (w .pgs ≤ 52)
+    low = let k = listed in (below-52 a (w .pps) pps-most h, omega arith, omega arith)
+
+    -- by the place of a: what a lookup answers there, to the last address that the place speaks for
+    pub piece : {p : Piece} (q : Place) → placeOf (plain c A b a) L ≡ q → p .answer ≡ lookedAt c A q → p .last ≡ lastOf a (bitsOf w q) → Holds (lookupOf c L A b) (total w) a p
     unfolding lookupOf
-    piece {p} e f =
-        let n = bitsOf w (placeOf (plain c A b a) L) in
-        let i : lastOf a n < total w = last-inside a n (w .pps) (bits-most (placeOf (plain c A b a) L)) h in
+    piece {p} q g e f =
+        let i : lastOf a (bitsOf w q) < total w = last-inside a (bitsOf w q) (w .pps) (bits-most q) h in
         record {
-          answer = e;
-          from = subst (λ (m : ℕ). a ≤ m) (sym f) (last-from a n);
+          answer = e ∙ ap (lookedAt c A) (sym g);
+          from = subst (λ (m : ℕ). a ≤ m) (sym f) (last-from a (bitsOf w q));
           inside = subst (λ (m : ℕ). m < total w) (sym f) i;
-          same = λ x u v. ap (lookedAt c A) (same-place x u (omega arith) (placeOf (plain c A b a) L) refl (subst (λ (m : ℕ). x ≤ m) f v));
+          same = λ x u v. ap (lookedAt c A) (same-place x u (omega arith) q g (subst (λ (m : ℕ). x ≤ m) f v) ∙ sym g);
         }

@@ -12,11 +12,13 @@ use Rattle.config.specs.declared.Widths.{Widths}
 use Rattle.config.specs.declared.Configured.the-variants.{Ok as Taken}
 use Rattle.config.specs.Fields.{configuredOf}
 use Rattle.config.specs.Index.{l0Entries}
-use Rattle.place.specs.declared.Place.{Place}
-use Rattle.place.specs.declared.Place.the-variants.{No, Block, Table}
+use Rattle.place.specs.declared.Refusal.the-variants.{InvalidL1Entry}
 use Rattle.place.specs.Place.{arenaBad}
 use Rattle.gpt.specs.declared.Looked.{Looked}
-use Rattle.gpt.specs.Lookup.{lookedNumber, lookedGpi}
+use Rattle.gpt.specs.declared.Looked.the-variants.{Refused}
+use Rattle.gpt.specs.Lookup.{lookedNumber, lookedGpi, granted}
+use Rattle.view.specs.declared.Held.{Held}
+use Rattle.view.specs.declared.Held.the-variants.{Is, Invalid, Outside}
 use Rattle.lines.specs.declared.Run.{Run}
 use Rattle.runs.specs.declared.Piece.{Piece}
 
@@ -52,11 +54,11 @@ pub record Open (c : Config) (L A : List ℕ) (b : ℕ) (w : Widths) : Type 0 wh
   pub enough : l0Entries w ≤ length L
   pub arena : arenaBad b (length A) ≡ false
 
--- the bits of the aligned stretch that a place speaks for
-abbrev pub bitsOf : Widths → Place → ℕ
-bitsOf w (No r) = w .l0gptsz
-bitsOf w (Block g) = w .l0gptsz
-bitsOf w (Table s) = w .pgs
+-- the answer where a table's view holds this; what lies outside the table is never asked (`view-is-lookup`)
+abbrev pub answerOf : Config → Held → Looked
+answerOf c (Is g) = granted c g InvalidL1Entry
+answerOf c Invalid = Refused InvalidL1Entry
+answerOf c Outside = Refused InvalidL1Entry
 
 -- p is a piece that starts at a or before: each address from a to its last answers as a does
 pub record Holds (f : ℕ → Looked) (end a : ℕ) (p : Piece) : Type 0 where

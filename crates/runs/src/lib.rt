@@ -1,17 +1,16 @@
 // The runs of addresses that a lookup answers alike: each is one line of the dump. Added by the port.
 ghost use mathlib.Core.Path.{_≡_};
-ghost use Prim.Native.Nat.{_+_, _-_, _*_, _/_, _^_, _≤_, _<_};
-ghost use Rattle.gpt.specs.Lookup.{plain, lookupOf};
-ghost use Rattle.place.specs.Place.{placeOf};
-ghost use Rattle.runs.specs.Runs.{codeOf, bitsOf, total, Open, Holds, First};
+ghost use Prim.Native.Nat.{_+_, _-_, _*_, _/_, _%_, _^_, _≤_, _<_};
+ghost use Rattle.gpt.specs.Lookup.{lookupOf};
+ghost use Rattle.runs.specs.Runs.{codeOf, answerOf, total, Open, Holds, First};
 use config::Config;
 use config::Widths;
 use gpt::Looked;
 use lines::Run;
 use pa::PA;
-use place::Ask;
-use place::Call;
 use place::Place;
+use place::Refusal;
+use view::Held;
 
 // The answer at an address, and the last address of a stretch that answers so.
 struct Piece {
@@ -29,22 +28,23 @@ fn code(a: Looked) -> u64
     }
 }
 
-// The bits of the aligned stretch around an address that surely answers alike: a granule of a table, else the whole L0 entry.
-fn bits_at(c: Config, l0: &[u64], arena: &[u64], base: PA, w: Widths, a: u64) -> u64
-    ensures { λ r. ⌜ r ≡ bitsOf w (placeOf (plain c (now (arena .entry)) (base .0) a) (now (l0 .entry))) ⌝ }
+// The answer at a granule of a table, by what its view holds there.
+fn answer(c: Config, h: Held) -> Looked
+    ensures { λ r. ⌜ r ≡ answerOf c h ⌝ }
 {
-    let q = Ask {
-        config: c,
-        words: arena.len(),
-        base,
-        address: PA(a),
-        call: Call::Plain,
-    };
-    match place::resolve(l0, q) {
-        Place::No(_) => w.l0gptsz,
-        Place::Block(_) => w.l0gptsz,
-        Place::Table(_) => w.pgs,
+    match h {
+        Held::Is(g) => gpt::grant(c, g, Refusal::InvalidL1Entry),
+        Held::Invalid => Looked::Refused(Refusal::InvalidL1Entry),
+        Held::Outside => Looked::Refused(Refusal::InvalidL1Entry),
     }
+}
+
+// The distance of an address from the first of the aligned 2^k that holds it.
+fn distance(a: u64, k: u64) -> u64
+    requires { ⌜ k < 64 ⌝ }
+    ensures { λ r. ⌜ r ≡ a % 2 ^ k ⌝ }
+{
+    a % config::pow2(k)
 }
 
 // The last address of the aligned 2^k that holds a.
@@ -56,15 +56,31 @@ fn last_of(a: u64, k: u64) -> u64
     a / n * n + (n - 1)
 }
 
+// The aligned stretch around an address that surely answers alike: a granule of a table, whose answer is read through the table's view, else the
+// whole L0 entry.
 fn piece_at(c: Config, l0: &[u64], arena: &[u64], base: PA, w: Widths, a: u64) -> Piece
     requires { ⌜ Open c (now l0) (now arena) (base .0) w ⌝ }
     requires { ⌜ a < total w ⌝ }
     ensures { λ r. ⌜ Holds (lookupOf c (now (l0 .entry)) (now (arena .entry)) (base .0)) (total w) a r ⌝ }
 {
-    let k = bits_at(c, l0, arena, base, w, a);
-    Piece {
-        answer: gpt::lookup(c, l0, arena, base, PA(a)),
-        last: last_of(a, k),
+    match place::find(l0, c, arena.len(), base, PA(a)) {
+        Place::No(r) => Piece {
+            answer: Looked::Refused(r),
+            last: last_of(a, w.l0gptsz),
+        },
+        Place::Block(g) => Piece {
+            answer: gpt::grant(c, g, Refusal::InvalidL0Entry),
+            last: last_of(a, w.l0gptsz),
+        },
+        Place::Table(s) => {
+            let o = s.start;
+            let end = o + s.words;
+            let h = view::gpi_through(&arena[o..end], w.pgs, distance(a, w.l0gptsz));
+            Piece {
+                answer: answer(c, h),
+                last: last_of(a, w.pgs),
+            }
+        }
     }
 }
 

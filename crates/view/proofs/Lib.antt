@@ -1,1 +1,2 @@
+mod Readers
 pub mod Spots

@@ -108,7 +108,7 @@ pub fn gpi_of<'a>(v: View<'a>, at: u64) -> Held
 
 // From a slice to a view and through it: its parameters are plain, so whoever calls it needs no walk.
 pub fn gpi_through(t: &[u64], width: u64, at: u64) -> Held
-    ensures { λ r. ⌜ r ≡ heldAt (now (t .entry)) width at ⌝ }
+    ensures { λ s. ⌜ s ≡ heldAt (now (t .entry)) width at ⌝ }
 {
     gpi_of(make(t, width), at)
 }

@@ -14,9 +14,8 @@ room₁ : (c : tie.After-put-hex) → c .put-hex .result + 16 + length (name (c 
 room₁ c =
     let s = c .before .before .before in
     let e = length-line (s .args .r) in
-    let h = length-hex 13 (s .args .r .start) in
     let k = put-length (c .put-hex .ensures) in
-    let a = c .put-hex .ensures .place in
+    let a = simp length-hex at (c .put-hex .ensures .place) in
     omega (arith, s .pre)
 
 same₂ : (c : tie.After-put-hex2) → length (c .put-hex2 .last .0) ≡ length (c .before .before .before .before .before .before .before .args .out .now)
@@ -28,8 +27,7 @@ room₂ c =
     let r = room₁ h in
     let k = put-length (h .put-hex .ensures) in
     let l = same₂ c in
-    let x = length-hex 13 (h .before .before .before .args .r .last) in
-    let a = c .put-hex2 .ensures .place in
+    let a = simp length-hex at (c .put-hex2 .ensures .place) in
     omega arith
 
 same₃ : (c : tie.After-put-name) → length (c .put-name .last .0) ≡ length (c .before .before .before .before .before .before .before .before .before .before .before .args .out .now)

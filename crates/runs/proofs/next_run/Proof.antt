@@ -50,7 +50,7 @@ code-requires-2 : tie.Need-code-requires-2 Inv-loop μ-loop
 code-requires-2 c κs = tt
 
 returns : tie.Need-returns Inv-loop μ-loop
-returns c = let s = c .before .before .before .before .before .before .before .before .before .before in let e = c .before .before .before .before .before .before .before .pow2 .ensures in let t = top s in let l = c .before .before .before .before in let p = c .before .before in end-run _ _ _ _ _ (l .loop .inv .0) (omega arith) (l .loop .inv .2) (l .loop .inv .4) (p .piece-at2 .ensures) (λ z. c .if1 .taken (c .before .code2 .ensures ∙ z ∙ sym (l .loop .inv .3)))
+returns c = let s = c .before .before .before .before .before .before .before .before .before .before in let e = c .before .before .before .before .before .before .before .pow2 .ensures in let t = top s in let l = c .before .before .before .before in let p = c .before .before in end-run _ _ _ _ _ (l .loop .inv .0) (omega arith) (l .loop .inv .2) (l .loop .inv .4) (p .piece-at2 .ensures) (λ z. c .if1 .taken (let o = c .before .code2 .ensures in let v = l .loop .inv .3 in cc))
 
 loop-less : tie.Need-loop-less Inv-loop μ-loop
 loop-less c = let p = c .before .before .piece-at2 .ensures in let f = p .from in let i = p .inside in omega arith

@@ -1,10 +1,21 @@
 -- `text::opens` meets its contract.
 -- Assumes nothing.
-use mathlib.Core.Path.{sym, _∙_}
+use mathlib.Core.Path.{_≡_, sym, _∙_}
+use mathlib.Core.Bool.{true, false}
+use Prim.Native.Nat.{ℕ, _≤_, _<_}
+use native.Mathlib.Omega.{arith}
 use borrow.Author.Tests.{eq-eqb, ne-eqb, le-leb, lt-leb}
 use borrow.Author.Needs.{needs}
+use Rattle.text.specs.Text.{shuts}
 use Rattle.text.proofs.opens.Statement.{statement}
 use Rattle.text.proofs.opens.Tie as tie
+
+-- 1 to 4 shut the tables out, and no other number does
+shut : (n : ℕ) → (n ≡ 0 → ⊥) → n ≤ 4 → shuts n ≡ true
+shut n a b = rw (ne-eqb n 0 a, le-leb n 4 b)
+
+shown : (n : ℕ) → (n ≡ 0 → ⊥) → 4 < n → shuts n ≡ false
+shown n a b = rw (ne-eqb n 0 a, lt-leb n 4 b)
 
 configure-requires : tie.Need-configure-requires
 configure-requires c κs = search needs
@@ -16,7 +27,7 @@ returns : tie.Need-returns
 returns c = rw (sym (c .before .before .before .before .configure .ensures) ∙ c .before .before .w .given .1, eq-eqb _ _ (c .if1 .taken))
 
 returns-2 : tie.Need-returns-2
-returns-2 c = rw (sym (c .before .before .before .before .before .configure .ensures) ∙ c .before .before .before .w .given .1, ne-eqb _ _ (c .before .if1 .left), le-leb _ _ (c .if2 .taken))
+returns-2 c = rw (sym (c .before .before .before .before .before .configure .ensures) ∙ c .before .before .before .w .given .1, shut _ (c .before .if1 .left) (omega (arith, c .if2 .taken)))
 
 enum-told : tie.Need-enum-told
 enum-told c = search needs
@@ -25,7 +36,7 @@ enum-told-2 : tie.Need-enum-told-2
 enum-told-2 c = search needs
 
 returns-3 : tie.Need-returns-3
-returns-3 c = rw (sym (c .before .before .before .before .before .configure .ensures) ∙ c .before .before .before .w .given .1, ne-eqb _ _ (c .before .if1 .left), lt-leb _ _ (c .if2 .left))
+returns-3 c = rw (sym (c .before .before .before .before .before .configure .ensures) ∙ c .before .before .before .w .given .1, shown _ (c .before .if1 .left) (omega (arith, c .if2 .left)))
 
 returns-4 : tie.Need-returns-4
 returns-4 c = rw (sym (c .before .before .configure .ensures) ∙ c .enum-told .given .1)

@@ -11,13 +11,13 @@ is-width-requires : tie.Need-is-width-requires
 is-width-requires c κs = search needs
 
 returns : tie.Need-returns
-returns c = inside _ _ _ (sym (c .before .before .is-width .ensures) ∙ c .before .if1 .taken) (c .if2 .taken)
+returns c = inside _ _ _ (sym (c .before .before .is-width .ensures) ∙ c .before .if1 .taken) (omega (arith, c .if2 .taken))
 
 shr-g : tie.Need-shr-g
 shr-g c = let h = width-most (c .before .before .args .width) (sym (c .before .is-width .ensures) ∙ c .if1 .taken) in omega arith
 
 returns-2 : tie.Need-returns-2
-returns-2 c = behind _ _ _ (sym (c .before .before .is-width .ensures) ∙ c .before .if1 .taken) (c .if2 .left)
+returns-2 c = behind _ _ _ (sym (c .before .before .is-width .ensures) ∙ c .before .if1 .taken) (omega (arith, c .if2 .left))
 
 returns-3 : tie.Need-returns-3
 returns-3 c = not-width _ _ _ (sym (c .before .is-width .ensures) ∙ c .if1 .left)
