@@ -1,5 +1,5 @@
 -- What is proved: Starred, the starred cases; Unique, that each call has one outcome; Demand3, the theorem of demand 3 (`demand3`, and `promise`
--- under less), and Witness, that its premises can be met; History, demand 3 over time, and HistoryWitness. The rest serves these.
+-- under less), and Witness, that its premises can be met. The rest serves these.
 -- Assumes nothing.
 pub mod Starred
 pub mod Unique
@@ -12,7 +12,3 @@ pub mod Found
 pub mod Cut
 pub mod Demand3
 pub mod Witness
-pub mod HistoryParts
-pub mod HistoryActs
-pub mod History
-pub mod HistoryWitness

@@ -1,5 +1,4 @@
 pub mod Cases
 pub mod Demand3
 pub mod Witness
-pub mod History
 pub mod Unique

@@ -28,12 +28,12 @@ use Rattle.place.specs.Place.{tableOf}
 use Rattle.place.specs.Sited.{Sited}
 use Rattle.place.proofs.Promises.{table-length, table-word}
 use Rattle.gpt.specs.declared.Looked.the-variants.{Ok}
 use Rattle.promises.specs.Cases.{fields, l0, arena, log}
-use Rattle.promises.specs.History.{Lent, placed, look, Act, sets, cuts, mends, start, act, acts, Allowed, Ready, Kept}
+use Rattle.history.specs.History.{Lent, placed, look, Act, sets, cuts, mends, start, act, acts, Allowed, Ready, Kept}
 use Rattle.promises.specs.Demand3.{answers-0, storesBefore}
 use Rattle.promises.proofs.Starred.{opened, starred}
-use Rattle.promises.proofs.HistoryParts.{listed, found}
-use Rattle.promises.proofs.History.{history}
+use Rattle.history.proofs.Parts.{listed, found}
+use Rattle.history.proofs.History.{history}
 
 abbrev pub lent : Lent
 lent = record { config = fields 0 true; widths = record { pps = 32; pgs = 16; l0gptsz = 30 }; l0 = l0; base = 0x8000_0000 }

@@ -44,7 +44,7 @@ use Rattle.place.proofs.Promises.{resolved, neighbour, table-word}
 use Rattle.gpt.specs.declared.Looked.the-variants.{Ok}
 use Rattle.gpt.specs.Lookup.{plain, readIn}
 use Rattle.gpt.proofs.Reading.{same-answer, answers}
-use Rattle.promises.specs.History.{Lent, placed, look, Ready}
+use Rattle.history.specs.History.{Lent, placed, look, Ready}
 
 -- ---- what a granule reads, as the theory says it
 

@@ -39,10 +39,10 @@ use Rattle.gpt.specs.declared.Looked.the-variants.{Ok}
 use Rattle.gpt.specs.Lookup.{plain}
 use Rattle.mend.specs.declared.Mended.the-variants.{Refused}
 use Rattle.mend.specs.Outcome.{Outcome, mendedNumber, mendedAt, mendOf}
-use Rattle.promises.specs.History.{Lent, placed, look, Request, Act, sets, cuts, mends, acted, made, State, start, act, acts, Aimed, May, Allowed, Ready, Kept}
-use Rattle.promises.proofs.HistoryParts.{part, parts, unit, listed, found, granule-below, nearby, site-words, site-unit, site-index, site-granule, parts-is, parts-apart, parts-whole, same-place, look-same, look-new}
+use Rattle.history.specs.History.{Lent, placed, look, Request, Act, sets, cuts, mends, acted, made, State, start, act, acts, Aimed, May, Allowed, Ready, Kept}
+use Rattle.history.proofs.Parts.{part, parts, unit, listed, found, granule-below, nearby, site-words, site-unit, site-index, site-granule, parts-is, parts-apart, parts-whole, same-place, look-same, look-new}
 use Rattle.promises.proofs.Told.{lead-is}
-use Rattle.promises.proofs.HistoryActs.{Taken, target, set-is, set-arena, cut-arena, aimed}
+use Rattle.history.proofs.Acts.{Taken, target, set-is, set-arena, cut-arena, aimed}
 
 -- ---- the theory's ideal, at the target and elsewhere
 

@@ -29,11 +29,11 @@ use Rattle.place.specs.Place.{placeOf, siteOf, tableOf}
 use Rattle.place.specs.Sited.{Sited}
 use Rattle.place.proofs.Promises.{neighbour, table-length, gpi-taken}
 use Rattle.gpt.specs.Set.{changedNumber, siteEvents, asking}
-use Rattle.promises.specs.History.{Lent, placed, Request, sets, cuts, change, acted}
+use Rattle.history.specs.History.{Lent, placed, Request, sets, cuts, change, acted}
 use Rattle.promises.specs.Demand3.{Answers0or10}
 use Rattle.promises.proofs.Happened.{At, happened}
 use Rattle.promises.proofs.Told.{cut-is}
-use Rattle.promises.proofs.HistoryParts.{part, settled, found}
+use Rattle.history.proofs.Parts.{part, settled, found}
 
 -- what is known of a set that answers 0 or 10: its site, its GPI
 pub record Taken (q : Lent) (A : List ℕ) (r : Request) (s : Site) (g : Gpi) : Type 0 where
