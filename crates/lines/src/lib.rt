@@ -3,7 +3,6 @@ ghost use mathlib.Core.Path.{_≡_};
 ghost use mathlib.Core.List.{_++_};
 ghost use Prim.Native.Nat.{_+_, _≤_, _<_, _^_};
 ghost use lib.ListN.{length, take, drop};
-ghost use Rattle.place.specs.Place.{refusalNumber};
 ghost use Rattle.lines.specs.Lines.{digitOf, hex, dec, gpiName, names, name, line, header, told, Put};
 use config::Widths;
 use gpi::Gpi;
@@ -111,19 +110,12 @@ fn put_gpi(out: &mut [u8], at: usize, g: Gpi) -> usize
     put(out, at, &b[a..e])
 }
 
-// Document 01's number of a refusal: one digit.
-pub fn refusal_number(r: Refusal) -> u64
-    ensures { λ n. ⌜ (n ≡ refusalNumber r) × (n ≤ 9) ⌝ }
-{
-    place::number(r)
-}
-
 fn name_len(a: Looked) -> usize
     ensures { λ r. ⌜ (r ≡ length (name a)) × (r ≤ 18) ⌝ }
 {
     match a {
         Looked::Ok(g) => gpi_len(g),
-        Looked::Refused(r) => 8 + dec_len(refusal_number(r)),
+        Looked::Refused(r) => 8 + dec_len(place::number(r)),
     }
 }
 
@@ -142,7 +134,7 @@ fn put_name(out: &mut [u8], at: usize, a: Looked) -> usize
 {
     match a {
         Looked::Ok(g) => put_gpi(out, at, g),
-        Looked::Refused(r) => put_numbered(out, at, b"refused ", refusal_number(r)),
+        Looked::Refused(r) => put_numbered(out, at, b"refused ", place::number(r)),
     }
 }
 

@@ -5,7 +5,7 @@
 use mathlib.Core.Path.{_≡_, refl, sym, _∙_, ap, ap₂}
 use mathlib.Core.Bool.{Bool}
 use mathlib.Core.List.{List}
-use Prim.Native.Nat.{ℕ, _+_, _≤_}
+use Prim.Native.Nat.{ℕ, _+_}
 use lib.Dec.{eqb}
 use lib.ListN.{length}
 use Rattle.gpi.specs.declared.Gpi.{Gpi}
@@ -232,6 +232,3 @@ lines-line_len a = is _
 
 pub lines-header_len : (w : Widths) → One (λ (r : ℕ). r ≡ length (header w))
 lines-header_len w = is _
-
-pub lines-refusal_number : (e : Refusal) → One (λ (n : ℕ). (n ≡ refusalNumber e) × (n ≤ 9))
-lines-refusal_number e r q m n = same (m .0) (n .0)

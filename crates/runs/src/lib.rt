@@ -24,7 +24,7 @@ fn code(a: Looked) -> u64
 {
     match a {
         Looked::Ok(g) => gpi::number(g),
-        Looked::Refused(r) => 16 * lines::refusal_number(r),
+        Looked::Refused(r) => 16 * place::number(r),
     }
 }
 

@@ -20,8 +20,8 @@ gpi-len-requires c κs = search needs
 enum-known-a-2 : tie.Need-enum-known-a-2
 enum-known-a-2 c = search needs
 
-refusal-number-requires : tie.Need-refusal-number-requires
-refusal-number-requires c κs = search needs
+number-requires : tie.Need-number-requires
+number-requires c κs = search needs
 
 dec-len-requires : tie.Need-dec-len-requires
 dec-len-requires c κs = search needs
@@ -33,7 +33,7 @@ returns : tie.Need-returns
 returns c = let e = ap (λ (x : Looked). length (name x)) (c .before .before .a .given .1) in let h = length-name (c .before .before .before .before .args .a) in let k = c .gpi-len .ensures in (omega arith, omega arith)
 
 returns-2 : tie.Need-returns-2
-returns-2 c = let e = ap (λ (x : Looked). length (name x)) (c .before .before .before .a2 .given .1) in let h = length-name (c .before .before .before .before .before .args .a) in let m = c .dec-len .ensures in let n = ap (λ (k : ℕ). length (dec k)) (c .before .refusal-number .ensures .0) in (omega arith, omega arith)
+returns-2 c = let e = ap (λ (x : Looked). length (name x)) (c .before .before .before .a2 .given .1) in let h = length-name (c .before .before .before .before .before .args .a) in let m = c .dec-len .ensures in let n = ap (λ (k : ℕ). length (dec k)) (c .before .number .ensures) in (omega arith, omega arith)
 
 pub name-len-spec : {M : Type 1} → statement M
 name-len-spec =
@@ -42,7 +42,7 @@ name-len-spec =
     enum-known-a
     gpi-len-requires
     enum-known-a-2
-    refusal-number-requires
+    number-requires
     dec-len-requires
     add-result
     returns

@@ -22,11 +22,11 @@ enum-known-a-2 c = search needs
 slice-aggregate-put-numbered : tie.Need-slice-aggregate-put-numbered
 slice-aggregate-put-numbered c = search needs
 
-refusal-number-requires : tie.Need-refusal-number-requires
-refusal-number-requires c κs = search needs
+number-requires : tie.Need-number-requires
+number-requires c κs = search needs
 
 put-numbered-requires : tie.Need-put-numbered-requires
-put-numbered-requires c κs = let e = ap (λ (x : Looked). length (name x)) (c .before .before .before .before .a2 .given .1) in let n = ap (λ (k : ℕ). length (dec k)) (c .refusal-number .ensures .0) in let h = c .before .before .before .before .before .before .before .pre in omega arith
+put-numbered-requires c κs = let e = ap (λ (x : Looked). length (name x)) (c .before .before .before .before .a2 .given .1) in let n = ap (λ (k : ℕ). length (dec k)) (c .number .ensures) in let h = c .before .before .before .before .before .before .before .pre in omega arith
 
 same-length : tie.Need-same-length
 same-length c = search needs
@@ -38,7 +38,7 @@ same-length-2 : tie.Need-same-length-2
 same-length-2 c = search needs
 
 returns-2 : tie.Need-returns-2
-returns-2 c = rw (c .before .before .before .before .before .before .before .a2 .given .1) (rw (c .before .before .before .refusal-number .ensures .0) at (c .before .before .put-numbered .ensures))
+returns-2 c = rw (c .before .before .before .before .before .before .before .a2 .given .1) (rw (c .before .before .before .number .ensures) at (c .before .before .put-numbered .ensures))
 
 pub put-name-spec : {M : Type 1} → statement M
 put-name-spec =
@@ -48,7 +48,7 @@ put-name-spec =
     put-gpi-requires
     enum-known-a-2
     slice-aggregate-put-numbered
-    refusal-number-requires
+    number-requires
     put-numbered-requires
     same-length
     returns
