@@ -7,7 +7,7 @@ use Prim.Native.Nat.{ℕ}
 use lib.ListN.{replicate, set}
 use Rattle.gpi.specs.declared.Gpi.the-variants.{NonSecure, Root, Realm}
 use Rattle.nibbles.specs.Nibs.{nibs}
-use Rattle.words.specs.L0.{l0Of}
+use Rattle.l0.specs.L0.{l0Of}
 use Rattle.words.specs.L1.{l1Of}
 use Rattle.config.specs.declared.Config.{Config}
 use Rattle.config.specs.Fields.{configuredOf}

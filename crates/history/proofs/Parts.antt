@@ -22,12 +22,12 @@ use Rattle.tables.specs.Format.{reading}
 use Rattle.tables.specs.Normal.{at, span}
 use Rattle.tables.specs.Whole.{Whole}
 use Rattle.tables.specs.Moves.{Part, tableAt, Apart, Parts}
+use Rattle.nibbles.specs.Nibs.{nib}
 use Rattle.words.specs.declared.L1Entry.{L1Entry}
 use Rattle.words.specs.declared.L1Entry.the-variants.{Contiguous, Granules, Invalid}
-use Rattle.nibbles.specs.Nibs.{nib}
 use Rattle.words.specs.L1.{l1Of, readOf, readAt, flatOf}
 use Rattle.words.specs.Arm.{arm, validOf}
-use Rattle.words.proofs.Entries.{nib-repeated}
+use Rattle.nibbles.proofs.Packed.{nib-repeated}
 use Rattle.config.specs.declared.Widths.{Widths}
 use Rattle.config.specs.declared.Configured.the-variants.{Ok as Configured}
 use Rattle.config.specs.Fields.{Listed, configuredOf, supportedOf}

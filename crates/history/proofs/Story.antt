@@ -14,8 +14,8 @@ use Rattle.tables.specs.Format.{gpi}
 use Rattle.tables.specs.Normal.{at, span}
 use Rattle.tables.specs.Whole.{Whole}
 use Rattle.tables.proofs.Ranges.{in-table}
-use Rattle.words.specs.declared.L0Entry.the-variants.{Table as TableWord}
-use Rattle.words.specs.L0.{l0Of}
+use Rattle.l0.specs.declared.L0Entry.the-variants.{Table as TableWord}
+use Rattle.l0.specs.L0.{l0Of}
 use Rattle.words.specs.Arm.{arm}
 use Rattle.words.proofs.Arm.{arm-laws}
 use Rattle.config.specs.declared.Configured.the-variants.{Ok as Configured}

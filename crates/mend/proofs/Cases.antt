@@ -11,7 +11,7 @@ use Rattle.tables.specs.Normal.{span, every, alike, widest, capped}
 use Rattle.tables.specs.Stores.{apply}
 use Rattle.tables.specs.Mend.{repairs, mending, mend, mendCount}
 use Rattle.nibbles.specs.Nibs.{nibs}
-use Rattle.words.specs.L0.{l0Of}
+use Rattle.l0.specs.L0.{l0Of}
 use Rattle.words.specs.L1.{l1Of}
 use Rattle.words.specs.Arm.{arm}
 use Rattle.config.specs.declared.Config.{Config}

@@ -2,7 +2,7 @@
 -- Assumes nothing.
 use mathlib.Core.Path.{_≡_, refl, sym, ap, ap₂, _∙_, subst}
 use mathlib.Core.List.{List, [], _∷_}
-use mathlib.Core.Bool.{Bool, true, false, _&&_}
+use mathlib.Core.Bool.{Bool, true, false}
 use Prim.Native.Nat.{ℕ, zero, suc, _+_, _-_, _*_, _/_, _%_, _^_, _≤_, _<_}
 use native.Mathlib.Nat.{pow-suc, pow-succ', div-one, div-div-eq-div-mul, mul-assoc, mul-zero, mul-add, div-lt-iff-lt-mul, le-of-suc-le-suc, not-suc-le-zero}
 use native.Mathlib.Omega.{arith}
@@ -80,6 +80,20 @@ word-set (y ∷ l) (suc i) x h =
     let ih = word-set l i x (le-of-suc-le-suc h) in
     let p : (k : ℕ) → k * 16 ^ suc i ≡ (k * 16 ^ i) * 16 = λ k. ap (λ (q : ℕ). k * q) (pow-suc 16 i) ∙ sym (mul-assoc k (16 ^ i) 16) in
     omega (arith, p x, p (getD l i 0))
+
+-- ---- a test that passes at each
+
+pub all-at : (f : ℕ → Bool) (l : List ℕ) (i : ℕ) → all f l ≡ true → i < length l → f (getD l i 0) ≡ true
+all-at f [] i t h = absurd (not-suc-le-zero h)
+all-at f (x ∷ l) zero t h = and-both (f x) (all f l) t .0
+all-at f (x ∷ l) (suc i) t h = all-at f l i (and-both (f x) (all f l) t .1) (le-of-suc-le-suc h)
+
+pub all-set : (f : ℕ → Bool) (l : List ℕ) (i x : ℕ) → f x ≡ true → all f l ≡ true → all f (set l i x) ≡ true
+all-set f [] i x h t = t
+all-set f (y ∷ l) zero x h t = rw h (and-both (f y) (all f l) t .1)
+all-set f (y ∷ l) (suc i) x h t =
+    let b = and-both (f y) (all f l) t in
+    rw (b .0) (all-set f l i x h (b .1))
 
 -- ---- one nibble throughout
 

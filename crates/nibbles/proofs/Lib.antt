@@ -1,2 +1,4 @@
 pub mod Digits
 pub mod Masks
+pub mod Store
+pub mod Packed

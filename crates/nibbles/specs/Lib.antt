@@ -1,1 +1,2 @@
 pub mod Nibs
+pub mod Packed

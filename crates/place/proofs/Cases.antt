@@ -7,7 +7,7 @@ use Prim.Native.Nat.{ℕ, _-_, _^_}
 use Rattle.gpi.specs.declared.Gpi.the-variants.{SystemAgent, NonSecure, Realm, NonSecureOnly}
 use Rattle.gpi.specs.declared.Nibble.the-variants.{Known, Reserved}
 use Rattle.pa.specs.Pa.{pa}
-use Rattle.words.specs.L0.{l0Of}
+use Rattle.l0.specs.L0.{l0Of}
 use Rattle.config.specs.declared.Config.{Config}
 use Rattle.config.specs.Fields.{configuredOf}
 use Rattle.place.specs.declared.Ask.{Ask}

@@ -15,8 +15,8 @@ use Rattle.gpi.specs.declared.Nibble.the-variants.{Known, Reserved}
 use Rattle.gpi.specs.Gpi.{gpiAt}
 use Rattle.pa.specs.declared.PA.{PA}
 use Rattle.pa.specs.Pa.{pa}
-use Rattle.words.specs.declared.L0Entry.the-variants.{Block as BlockWord, Table as TableWord, Invalid}
-use Rattle.words.specs.L0.{l0Of, blockOf}
+use Rattle.l0.specs.declared.L0Entry.the-variants.{Block as BlockWord, Table as TableWord, Invalid}
+use Rattle.l0.specs.L0.{l0Of, blockOf}
 use Rattle.config.specs.declared.Widths.{Widths}
 use Rattle.config.specs.Index.{l0Entries, l0Index, l1Words}
 use Rattle.place.specs.declared.Ask.{Ask}

@@ -7,8 +7,8 @@ use Prim.Native.Nat.{ℕ, _+_, _*_, _%_, _≤_, _<_, _^_}
 use lib.ListN.{length, getD}
 use Rattle.pa.specs.Pa.{pa}
 use Rattle.tables.specs.Normal.{span, base}
-use Rattle.words.specs.declared.L0Entry.the-variants.{Table}
-use Rattle.words.specs.L0.{l0Of}
+use Rattle.l0.specs.declared.L0Entry.the-variants.{Table}
+use Rattle.l0.specs.L0.{l0Of}
 use Rattle.config.specs.declared.Widths.{Widths}
 use Rattle.config.specs.declared.Configured.the-variants.{Ok}
 use Rattle.config.specs.Fields.{Listed, configuredOf}

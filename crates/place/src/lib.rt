@@ -3,7 +3,6 @@ ghost use mathlib.Core.Path.{_≡_};
 ghost use mathlib.Core.Bool.{false};
 ghost use Prim.Native.Nat.{_≤_, _<_, _^_};
 ghost use Rattle.config.specs.Fields.{Listed};
-ghost use Rattle.config.specs.Index.{l1Words};
 ghost use Rattle.place.specs.Place.{refusalNumber, arenaBad, logShort, gpiBad, outside, siteOf, located, placeOf, seeking};
 ghost use Rattle.place.specs.declared.Call.the-variants.{Plain};
 use config::Config;
@@ -12,8 +11,8 @@ use config::Widths;
 use gpi::Gpi;
 use gpi::Nibble;
 use gpi::Size;
+use l0::L0Entry;
 use pa::PA;
-use words::L0Entry;
 
 // Why a call is refused: document 01's 1 to 9. The Rust's `Error` and `GranuleError`, and what is added to them.
 pub enum Refusal {
@@ -172,7 +171,7 @@ fn locate(l0: &[u64], q: Ask, w: Widths) -> Place
         return Place::No(Refusal::InvalidRequest);
     }
     let i = config::l0_resolve(w, address);
-    match words::l0_entry(l0[i]) {
+    match l0::l0_entry(l0[i]) {
         L0Entry::Block(g) => Place::Block(g),
         L0Entry::Table(a) => {
             if is_outside(base, q.words, a, config::l1_words(w)) {
@@ -214,7 +213,7 @@ fn seek(l0: &[u64], q: Ask, w: Widths) -> Place
         return Place::No(Refusal::InvalidRequest);
     }
     let i = config::l0_resolve(w, x);
-    match words::l0_entry(l0[i]) {
+    match l0::l0_entry(l0[i]) {
         L0Entry::Block(g) => Place::Block(g),
         L0Entry::Table(a) => {
             if is_outside(base, q.words, a, config::l1_words(w)) {

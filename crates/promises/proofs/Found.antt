@@ -15,8 +15,8 @@ use Rattle.pa.specs.declared.PA.{PA}
 use Rattle.pa.specs.Pa.{pa}
 use Rattle.tables.specs.Normal.{at}
 use Rattle.tables.specs.Mend.{mend}
-use Rattle.words.specs.declared.L0Entry.the-variants.{Table as TableWord}
-use Rattle.words.specs.L0.{l0Of}
+use Rattle.l0.specs.declared.L0Entry.the-variants.{Table as TableWord}
+use Rattle.l0.specs.L0.{l0Of}
 use Rattle.words.specs.L1.{readAt}
 use Rattle.words.specs.Arm.{arm}
 use Rattle.config.specs.declared.Config.{Config}

@@ -18,12 +18,14 @@ use Rattle.gpi.proofs.Rules.{num-lt, gpi-num}
 use Rattle.tables.specs.Format.{reads, reading, gpi}
 use Rattle.tables.specs.Normal.{at, span}
 use Rattle.tables.specs.Set.{Agrees}
+use Rattle.nibbles.specs.Nibs.{nib}
+use Rattle.nibbles.specs.Packed.{repeated}
 use Rattle.words.specs.declared.L1Entry.{L1Entry}
 use Rattle.words.specs.declared.L1Entry.the-variants.{Contiguous, Granules, Invalid}
-use Rattle.nibbles.specs.Nibs.{nib}
-use Rattle.words.specs.L1.{l1Of, readAt, readOf, flat, flatOf, repeated}
+use Rattle.words.specs.L1.{l1Of, readAt, readOf, flat, flatOf}
 use Rattle.words.specs.Arm.{arm, validOf, sizeOf, levelOf}
-use Rattle.words.proofs.Entries.{nib-repeated, l1-repeated, repeated-lt}
+use Rattle.nibbles.proofs.Packed.{nib-repeated, repeated-lt}
+use Rattle.words.proofs.Entries.{l1-repeated}
 use Rattle.words.proofs.Alike.{reads-flat}
 use Rattle.words.proofs.Arm.{level-num}
 use Rattle.config.specs.declared.Widths.{Widths}

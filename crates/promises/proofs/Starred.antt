@@ -7,7 +7,7 @@ use Rattle.tables.specs.Stores.{apply, fill}
 use Rattle.tables.specs.Events.{stores, count, records, logged}
 use Rattle.tables.specs.Set.{fillEvent, shatter, breaks, broken, brokenBarriers, newWord, changed, scan, climb, fusing, fused, storeEvents, setEvents}
 use Rattle.nibbles.specs.Nibs.{nibs, word}
-use Rattle.words.specs.L0.{l0Of}
+use Rattle.l0.specs.L0.{l0Of}
 use Rattle.words.specs.L1.{l1Of}
 use Rattle.config.specs.Fields.{configuredOf}
 use Rattle.place.specs.Place.{arenaBad, outside, siteOf, located, placeOf}

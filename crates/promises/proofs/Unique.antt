@@ -17,13 +17,14 @@ use Rattle.gpi.specs.Size.{sizeNum, sizeAt, bytesOf, smallerOf}
 use Rattle.pa.specs.declared.PA.{PA}
 use Rattle.pa.specs.declared.Distance.{Distance}
 use Rattle.pa.specs.Pa.{pa, alignedDown, distanceOf}
-use Rattle.words.specs.declared.L0Entry.{L0Entry}
-use Rattle.words.specs.declared.L1Entry.{L1Entry}
-use Rattle.words.specs.declared.TableWord.{TableWord}
-use Rattle.words.specs.declared.Match.{Match}
 use Rattle.nibbles.specs.Nibs.{nibs, all}
-use Rattle.words.specs.L0.{l0Of, blockWord, tableWordOf}
-use Rattle.words.specs.L1.{l1Of, matchAt, contigWord, granuleWord, gpisOf, flat}
+use Rattle.nibbles.specs.Packed.{granuleWord, gpisOf}
+use Rattle.l0.specs.declared.L0Entry.{L0Entry}
+use Rattle.l0.specs.declared.TableWord.{TableWord}
+use Rattle.l0.specs.L0.{l0Of, blockWord, tableWordOf}
+use Rattle.words.specs.declared.L1Entry.{L1Entry}
+use Rattle.words.specs.declared.Match.{Match}
+use Rattle.words.specs.L1.{l1Of, matchAt, contigWord, flat}
 use Rattle.config.specs.declared.Config.{Config}
 use Rattle.config.specs.declared.Width.{Width}
 use Rattle.config.specs.declared.Configured.{Configured}
@@ -171,8 +172,8 @@ module _ (g : Gpi) (s : Size) where
   pub gpi-next_smaller : One (λ (r : SizeCode). r ≡ smallerOf s)
   gpi-next_smaller = is _
 
-  pub words-block : One (λ (r : ℕ). r ≡ blockWord g)
-  words-block = is _
+  pub l0-block : One (λ (r : ℕ). r ≡ blockWord g)
+  l0-block = is _
 
   pub words-contig : One (λ (r : ℕ). r ≡ contigWord s g)
   words-contig = is _
@@ -181,15 +182,15 @@ module _ (a b : PA) where
   pub pa-sub : One (λ (r : Distance). r ≡ distanceOf (a .0) (b .0))
   pa-sub = is _
 
-  pub words-table : One (λ (r : TableWord). r ≡ tableWordOf (a .0))
-  words-table = is _
+  pub l0-table : One (λ (r : TableWord). r ≡ tableWordOf (a .0))
+  l0-table = is _
 
 pub pa-align_down : (a : PA) (n : ℕ) → One (λ (r : PA). r .0 ≡ alignedDown (a .0) n)
 pa-align_down a n r q e f = ap pa (same e f)
 
 module _ (w : ℕ) where
-  pub words-l0_entry : One (λ (r : L0Entry). r ≡ l0Of w)
-  words-l0_entry = is _
+  pub l0-l0_entry : One (λ (r : L0Entry). r ≡ l0Of w)
+  l0-l0_entry = is _
 
   pub words-l1_entry : One (λ (r : L1Entry). r ≡ l1Of w)
   words-l1_entry = is _
@@ -197,18 +198,18 @@ module _ (w : ℕ) where
   pub nibbles-all_valid : One (λ (r : Bool). r ≡ all knownAt (nibs 16 w))
   nibbles-all_valid = is _
 
-  pub words-gpis : One (λ (r : List Gpi). r ≡ gpisOf w)
-  words-gpis = is _
+  pub nibbles-gpis : One (λ (r : List Gpi). r ≡ gpisOf w)
+  nibbles-gpis = is _
 
   pub words-flat : One (λ (r : ℕ). r ≡ flat w)
   words-flat = is _
 
-pub words-granule : (gs : List Gpi) → One (λ (r : ℕ). r ≡ granuleWord gs)
-words-granule gs = is _
+pub nibbles-granule : (gs : List Gpi) → One (λ (r : ℕ). r ≡ granuleWord gs)
+nibbles-granule gs = is _
 
 module _ (w : ℕ) (g : Gpi) where
-  pub words-all_gpi : One (λ (r : Bool). r ≡ all (eqb (num g)) (nibs 16 w))
-  words-all_gpi = is _
+  pub nibbles-all_gpi : One (λ (r : Bool). r ≡ all (eqb (num g)) (nibs 16 w))
+  nibbles-all_gpi = is _
 
   pub words-matches_gpi : One (λ (r : Match). r ≡ matchAt w g)
   words-matches_gpi = is _

@@ -18,9 +18,9 @@ use Rattle.pa.specs.declared.PA.{PA}
 use Rattle.pa.specs.Pa.{pa}
 use Rattle.tables.specs.Normal.{at, In}
 use Rattle.nibbles.specs.Nibs.{nibs}
-use Rattle.words.specs.declared.L0Entry.the-variants.{Table as TableWord}
+use Rattle.l0.specs.declared.L0Entry.the-variants.{Table as TableWord}
+use Rattle.l0.specs.L0.{l0Of}
 use Rattle.words.specs.declared.L1Entry.the-variants.{Contiguous}
-use Rattle.words.specs.L0.{l0Of}
 use Rattle.words.specs.L1.{l1Of, readAt}
 use Rattle.config.specs.declared.Widths.{Widths}
 use Rattle.config.specs.declared.Configured.the-variants.{Ok}

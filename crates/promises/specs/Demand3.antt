@@ -17,9 +17,9 @@ use Rattle.tables.specs.Normal.{at, In, normal}
 use Rattle.tables.specs.Stores.{cut}
 use Rattle.tables.specs.Events.{told, readLog}
 use Rattle.tables.specs.Set.{Agrees, changedFlat}
-use Rattle.words.specs.declared.L0Entry.the-variants.{Table as TableWord}
+use Rattle.l0.specs.declared.L0Entry.the-variants.{Table as TableWord}
+use Rattle.l0.specs.L0.{l0Of}
 use Rattle.words.specs.declared.L1Entry.the-variants.{Contiguous}
-use Rattle.words.specs.L0.{l0Of}
 use Rattle.words.specs.L1.{l1Of, readAt, flat}
 use Rattle.words.specs.Arm.{arm}
 use Rattle.config.specs.declared.Config.{Config}

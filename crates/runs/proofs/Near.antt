@@ -6,9 +6,9 @@ use mathlib.Core.List.{List}
 use Prim.Native.Nat.{ℕ, _+_, _/_, _%_, _^_, _≤_, _<_}
 use native.Mathlib.Omega.{arith}
 use lib.ListN.{length, getD}
-use Rattle.words.specs.declared.L0Entry.{L0Entry}
-use Rattle.words.specs.declared.L0Entry.the-variants.{Block as BlockWord, Table as TableWord, Invalid}
-use Rattle.words.specs.L0.{l0Of}
+use Rattle.l0.specs.declared.L0Entry.{L0Entry}
+use Rattle.l0.specs.declared.L0Entry.the-variants.{Block as BlockWord, Table as TableWord, Invalid}
+use Rattle.l0.specs.L0.{l0Of}
 use Rattle.config.specs.declared.Config.{Config}
 use Rattle.config.specs.declared.Widths.{Widths}
 use Rattle.config.specs.Fields.{Listed}

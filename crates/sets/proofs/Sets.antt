@@ -20,7 +20,8 @@ use Rattle.tables.specs.Events.{Event, granule, stores, count}
 use Rattle.tables.specs.Set.{barriers, bytes, shatter, breaks, broken, brokenBarriers, newWord, changed, Fused, nowhere, climb, fusing, fused, storeEvents, setEvents}
 use Rattle.tables.proofs.Events.{stores-append}
 use Rattle.tables.proofs.Set.{stores-barriers, broken-at}
-use Rattle.words.specs.L1.{l1Of, put, flatOf, repeated}
+use Rattle.nibbles.specs.Packed.{put, repeated}
+use Rattle.words.specs.L1.{l1Of, flatOf}
 use Rattle.words.specs.Arm.{arm, levelOf, sizeOf}
 use Rattle.words.specs.declared.L1Entry.{L1Entry}
 use Rattle.words.specs.declared.L1Entry.the-variants.{Contiguous, Granules, Invalid}

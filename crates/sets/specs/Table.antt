@@ -10,8 +10,8 @@ use Rattle.tables.specs.Normal.{at}
 use Rattle.tables.specs.Stores.{apply}
 use Rattle.tables.specs.Events.{Event, granule, stores, count, logged}
 use Rattle.tables.specs.Set.{Fused, nowhere, level, refused, barriers, climb, fused, setEvents, fusing}
+use Rattle.nibbles.specs.Packed.{put}
 use Rattle.words.specs.Arm.{arm}
-use Rattle.words.specs.L1.{put}
 use Rattle.stores.specs.declared.Tally.{Tally}
 use Rattle.stores.specs.declared.Job.{Job}
 use Rattle.stores.specs.Done.{Done}

@@ -36,7 +36,7 @@ fn set_granule(table: &mut [u64], log: &mut [u64], t: Tally, q: Job) -> Answer
     let i = q.index;
     let g = q.gpi;
     let address = q.address;
-    let w = words::set_gpi(table[i], q.granule, g);
+    let w = nibbles::set_gpi(table[i], q.granule, g);
     let a = stores::store_granule(table, log, t, q.offset, i, q.granule, w);
     let b = stores::barriers(log, a, address, q.grain);
     let m = fuse::fuse_descriptors(&table[..], i, q.unit, g);

@@ -14,7 +14,8 @@ use Rattle.tables.specs.Normal.{span, base}
 use Rattle.tables.specs.Set.{fillEvent, shatter}
 use Rattle.tables.proofs.Set.{few, few-shatter, count-fill, count-shatter}
 use Rattle.tables.proofs.Ranges.{base-lo, base-hi}
-use Rattle.words.specs.L1.{granuleWord, contigWord}
+use Rattle.nibbles.specs.Packed.{granuleWord}
+use Rattle.words.specs.L1.{contigWord}
 use Rattle.words.specs.Arm.{arm, levelOf}
 use Rattle.words.proofs.Sizes.{level-down, level-none}
 use Rattle.words.proofs.Arm.{level-lt, contig-arm, granule-arm}

@@ -1,5 +1,4 @@
 // A contiguous entry broken up: its range refilled at the next smaller size. From gpt.rs: `shatter_contig`, and the barriers after it.
-ghost use mathlib.Core.Path.{_≡_};
 ghost use mathlib.Core.List.{_++_};
 ghost use Prim.Native.Nat.{_+_, _*_, _≤_, _<_, _^_};
 ghost use Rattle.gpi.specs.Gpi.{num};
@@ -64,7 +63,7 @@ pub fn shatter_contig(
             offset,
             index / unit * unit,
             unit,
-            words::granule([g; 16]),
+            nibbles::granule([g; 16]),
         );
     };
     let c = cut_at(index, words::span(unit, smaller));

@@ -1,12 +1,10 @@
 -- `flat` and the granule store: what a word reads, and that two valid words are read alike exactly if their `flat` is one word.
 -- Assumes nothing.
 use mathlib.Core.Path.{_≡_, refl, sym, ap, _∙_, subst}
-use mathlib.Core.List.{List, [], _∷_}
-use mathlib.Core.Bool.{Bool, true, false, _&&_}
-use Prim.Native.Nat.{ℕ, zero, suc, _%_, _^_, _<_}
-use native.Mathlib.Nat.{le-of-suc-le-suc, not-suc-le-zero}
+use mathlib.Core.Bool.{Bool, true, false}
+use Prim.Native.Nat.{ℕ, _%_, _^_, _<_}
 use native.Mathlib.Omega.{arith}
-use lib.ListN.{length, getD, set}
+use lib.ListN.{length, getD}
 use lib.Seq.{ext-getD}
 use Rattle.gpi.specs.declared.Gpi.{Gpi}
 use Rattle.gpi.specs.declared.Nibble.{Nibble}
@@ -14,14 +12,15 @@ use Rattle.gpi.specs.declared.Nibble.the-variants.{Known, Reserved}
 use Rattle.gpi.specs.declared.Size.{Size}
 use Rattle.gpi.specs.Gpi.{num, gpiAt, isKnown, knownAt}
 use Rattle.gpi.proofs.Rules.{num-lt, num-at, gpi-num}
-use Rattle.gpi.proofs.Table.{and-both}
 use Rattle.nibbles.specs.Nibs.{nib, nibs, word, all}
-use Rattle.words.specs.L1.{l1Of, granulesOf, readAt, readOf, contigWord, repeated, put, flat, flatOf}
+use Rattle.nibbles.specs.Packed.{repeated, put}
+use Rattle.words.specs.L1.{l1Of, granulesOf, readAt, readOf, contigWord, flat, flatOf}
 use Rattle.words.specs.declared.L1Entry.{L1Entry}
 use Rattle.words.specs.declared.L1Entry.the-variants.{Contiguous, Granules, Invalid}
-use Rattle.nibbles.proofs.Digits.{length-nibs, getD-nibs, word-nibs}
-use Rattle.words.proofs.Store.{nibs-put, put-same, put-other}
-use Rattle.words.proofs.Entries.{l1-untagged, l1-granules, granules-known, l1-contig, l1-repeated, nib-repeated, repeated-lt}
+use Rattle.nibbles.proofs.Digits.{length-nibs, getD-nibs, word-nibs, all-at, all-set}
+use Rattle.nibbles.proofs.Store.{nibs-put, put-same, put-other}
+use Rattle.nibbles.proofs.Packed.{nib-repeated, repeated-lt}
+use Rattle.words.proofs.Entries.{l1-untagged, l1-granules, granules-known, l1-contig, l1-repeated}
 
 -- ---- flat
 
@@ -79,13 +78,6 @@ flat-reads w i h = go (l1Of w) refl
 
 -- ---- a granule store into a word of granules
 
-all-set : (f : ℕ → Bool) (l : List ℕ) (i x : ℕ) → f x ≡ true → all f l ≡ true → all f (set l i x) ≡ true
-all-set f [] i x h t = t
-all-set f (y ∷ l) zero x h t = rw h (and-both (f y) (all f l) t .1)
-all-set f (y ∷ l) (suc i) x h t =
-    let b = and-both (f y) (all f l) t in
-    rw (b .0) (all-set f l i x h (b .1))
-
 module _ (w i : ℕ) (g : Gpi) (hi : i < 16) (t : l1Of w ≡ Granules) where
   -- it leaves a word of granules,
   pub put-granules : l1Of (put w i (num g)) ≡ Granules
@@ -105,11 +97,6 @@ module _ (w i : ℕ) (g : Gpi) (hi : i < 16) (t : l1Of w ≡ Granules) where
       ∙ ap gpiAt (put-other w i (num g) hi (num-lt g) j hj ne) ∙ sym (ap (λ (e : L1Entry). readOf e w j) t)
 
 -- ---- two valid words that read the same are flattened to one word
-
-pub all-at : (f : ℕ → Bool) (l : List ℕ) (i : ℕ) → all f l ≡ true → i < length l → f (getD l i 0) ≡ true
-all-at f [] i t h = absurd (not-suc-le-zero h)
-all-at f (x ∷ l) zero t h = and-both (f x) (all f l) t .0
-all-at f (x ∷ l) (suc i) t h = all-at f l i (and-both (f x) (all f l) t .1) (le-of-suc-le-suc h)
 
 -- two nibbles that stand for one GPI are one
 known-same : (a b : ℕ) → knownAt a ≡ true → gpiAt a ≡ gpiAt b → a ≡ b

@@ -1,10 +1,9 @@
 -- The Arm format has the laws that the theory of tables asks for.
 -- Assumes nothing.
-use mathlib.Core.Path.{_≡_, refl, sym, ap, ap₂, _∙_, subst}
-use mathlib.Core.List.{List, [], _∷_, map}
+use mathlib.Core.Path.{_≡_, refl, sym, ap, _∙_}
+use mathlib.Core.List.{List, _∷_, map}
 use mathlib.Core.Bool.{Bool, true, false, cond, _&&_}
-use Prim.Native.Nat.{ℕ, zero, suc, _+_, _*_, _%_, _/_, _^_, _<_}
-use native.Mathlib.Nat.{div-one}
+use Prim.Native.Nat.{ℕ, zero, suc, _%_, _^_, _<_}
 use native.Mathlib.Omega.{arith}
 use borrow.Author.Tests.{eqb-true, eqb-false, eq-eqb, ne-eqb}
 use lib.Dec.{lit<, eqb}
@@ -16,19 +15,20 @@ use Rattle.gpi.specs.declared.Size.{Size}
 use Rattle.gpi.specs.declared.Size.the-variants.{MB2, MB32, MB512}
 use Rattle.gpi.specs.Gpi.{num, gpiAt, isKnown, knownAt}
 use Rattle.gpi.specs.Size.{sizeNum}
-use Rattle.gpi.proofs.Rules.{num-at, num-lt, gpi-num, size-lt}
+use Rattle.gpi.proofs.Rules.{num-at, num-lt, size-lt}
 use Rattle.gpi.proofs.Table.{and-both}
-use Rattle.tables.specs.Format.{Format, Laws, reads}
-use Rattle.nibbles.specs.Nibs.{nib, nibs, word, all}
-use Rattle.words.specs.L1.{l1Of, contigWord, repeated, put, flat, flatOf, matchAt, matchOf, sameOf, granuleWord}
+use Rattle.tables.specs.Format.{Laws, reads}
+use Rattle.nibbles.specs.Nibs.{nibs, word, all}
+use Rattle.nibbles.specs.Packed.{repeated, put, granuleWord}
+use Rattle.words.specs.L1.{l1Of, contigWord, flat, flatOf, matchAt, matchOf, sameOf}
 use Rattle.words.specs.Arm.{validOf, sizeOf, levelOf, contigAt, arm}
-use Rattle.words.specs.declared.Match.{Match}
 use Rattle.words.specs.declared.Match.the-variants.{Same, Other, Bad}
 use Rattle.words.specs.declared.L1Entry.{L1Entry}
 use Rattle.words.specs.declared.L1Entry.the-variants.{Contiguous, Granules, Invalid}
 use Rattle.nibbles.proofs.Digits.{nibs-step, alike16, repeat16}
-use Rattle.words.proofs.Store.{put-same, put-other}
-use Rattle.words.proofs.Entries.{granules-known, l1-contig, l1-repeated, nib-repeated}
+use Rattle.nibbles.proofs.Store.{put-same, put-other}
+use Rattle.nibbles.proofs.Packed.{nib-repeated}
+use Rattle.words.proofs.Entries.{granules-known, l1-contig}
 use Rattle.words.proofs.Alike.{coarse, l1-flat, flat-idem, flat-contig, put-granules}
 
 -- ---- numbers that are known are those of GPIs, levels those of sizes

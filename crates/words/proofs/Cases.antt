@@ -1,63 +1,19 @@
--- Worked examples of the definitions, by computation alone: the words of document 01's cases.
+-- Worked examples of the definitions, by computation alone: the L1 words of document 01's cases.
 -- Assumes nothing.
 use mathlib.Core.Path.{_≡_, refl}
-use mathlib.Core.Bool.{true, false}
-use Rattle.gpi.specs.declared.Gpi.the-variants.{Root, Realm, NonSecure}
+use Rattle.gpi.specs.declared.Gpi.the-variants.{Root, Realm}
 use Rattle.gpi.specs.declared.Nibble.the-variants.{Known, Reserved}
 use Rattle.gpi.specs.declared.Size.the-variants.{MB32, MB512}
-use Rattle.pa.specs.Pa.{pa}
 use Rattle.nibbles.specs.Nibs.{nibs, word}
-use Rattle.words.specs.L0.{l0Of, blockWord, tableWordOf, tableNumber, tableValue}
-use Rattle.words.specs.L1.{l1Of, contigWord, flat, put, readAt, matchAt}
-use Rattle.words.specs.declared.L0Entry.the-variants.{Block, Table, Invalid as Neither}
+use Rattle.nibbles.specs.Packed.{put}
+use Rattle.words.specs.L1.{l1Of, contigWord, flat, readAt, matchAt}
 use Rattle.words.specs.declared.L1Entry.the-variants.{Contiguous, Granules, Invalid}
 use Rattle.words.specs.declared.Match.the-variants.{Same, Other, Bad}
 
 -- one opener for all of them
 unfoldable opened : Type 0
-unfolding l0Of tableWordOf l1Of nibs word
+unfolding l1Of nibs word
 opened = Unit {0}
-
-block : l0Of 0x91 ≡ Block NonSecure
-unfolding opened
-block = refl
-
--- the bits that are ignored, set
-block-noise : l0Of 0xFFFF_FFFF_FFFF_FF91 ≡ Block NonSecure
-unfolding opened
-block-noise = refl
-
-block-reserved : l0Of 0x21 ≡ Neither
-unfolding opened
-block-reserved = refl
-
-table : l0Of 0x8000_0003 ≡ Table (pa 0x8000_0000)
-unfolding opened
-table = refl
-
-table-noise : l0Of 0xFFF0_0000_8000_0FF3 ≡ Table (pa 0x8000_0000)
-unfolding opened
-table-noise = refl
-
-neither : l0Of 0x0 ≡ Neither
-unfolding opened
-neither = refl
-
--- its low two bits alone make no table
-neither-seven : l0Of 0x8000_0007 ≡ Neither
-unfolding opened
-neither-seven = refl
-
-made-block : blockWord NonSecure ≡ 0x91
-made-block = refl
-
-made-table : (tableNumber (tableWordOf 0x8000_0000) ≡ 0) × (tableValue (tableWordOf 0x8000_0000) ≡ 0x8000_0003)
-unfolding opened
-made-table = (refl, refl)
-
-unmade-table : (tableNumber (tableWordOf 0x8000_0800) ≡ 6) × (tableValue (tableWordOf 0x8000_0800) ≡ 0)
-unfolding opened
-unmade-table = (refl, refl)
 
 contiguous : l1Of 0x3A1 ≡ Contiguous Root MB512
 unfolding opened

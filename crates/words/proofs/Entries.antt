@@ -1,15 +1,12 @@
--- What a word says: the kinds never meet, and a word that was made says what it was made of.
+-- What an L1 word says: the kinds never meet, and a word that was made says what it was made of.
 -- Assumes nothing.
 use mathlib.Core.Path.{_≡_, refl, sym, ap, ap₂, _∙_}
-use mathlib.Core.List.{List}
 use mathlib.Core.Bool.{Bool, true, false}
-use Prim.Native.Nat.{ℕ, zero, suc, _+_, _*_, _/_, _%_, _^_, _<_, _≤_}
+use Prim.Native.Nat.{ℕ, zero, suc, _/_, _%_, _^_, _<_, _≤_}
 use native.Mathlib.Decide.{ℕ-discrete}
-use native.Mathlib.Nat.{mod-eq-of-lt}
 use native.Mathlib.Omega.{arith}
-use borrow.Author.Tests.{eq-eqb, ne-eqb, eqb-true, ltb-true}
-use lib.Dec.{eqb, ltb, lit<}
-use lib.ListN.{getD, replicate, getD-replicate}
+use borrow.Author.Tests.{eq-eqb, ne-eqb}
+use lib.Dec.{lit<}
 use Rattle.gpi.specs.declared.Gpi.{Gpi}
 use Rattle.gpi.specs.declared.Nibble.{Nibble}
 use Rattle.gpi.specs.declared.Nibble.the-variants.{Known, Reserved}
@@ -20,15 +17,12 @@ use Rattle.gpi.specs.declared.SizeCode.the-variants.{Is, None}
 use Rattle.gpi.specs.Gpi.{num, gpiAt, isKnown, knownAt}
 use Rattle.gpi.specs.Size.{sizeNum, sizeAt}
 use Rattle.gpi.proofs.Rules.{num-lt, gpi-num, size-num, size-lt}
-use Rattle.gpi.proofs.Table.{and-both}
-use Rattle.pa.specs.Pa.{pa}
-use Rattle.nibbles.specs.Nibs.{nib, nibs, all}
-use Rattle.words.specs.L0.{l0Of, blockOf, blockWord, tableWordOf}
-use Rattle.words.specs.L1.{l1Of, contiguousOf, granulesOf, contigWord, repeated}
-use Rattle.words.specs.declared.L0Entry.the-variants.{Block, Table}
-use Rattle.words.specs.declared.TableWord.the-variants.{Word, Refused}
+use Rattle.nibbles.specs.Nibs.{nibs, all}
+use Rattle.nibbles.specs.Packed.{repeated}
+use Rattle.words.specs.L1.{l1Of, contiguousOf, granulesOf, contigWord}
 use Rattle.words.specs.declared.L1Entry.the-variants.{Contiguous, Granules, Invalid}
-use Rattle.nibbles.proofs.Digits.{repeat16, nibs-replicate, getD-nibs, all-replicate, walk-miss}
+use Rattle.nibbles.proofs.Digits.{all-replicate, walk-miss}
+use Rattle.nibbles.proofs.Packed.{nibs-repeated}
 
 -- ---- L1: by the low nibble
 
@@ -101,47 +95,8 @@ l1-contig s g =
 pub contig-lt : (s : Size) (g : Gpi) → contigWord s g < 2 ^ 64
 contig-lt s g = omega (arith, num-lt g, size-lt s)
 
--- a GPI sixteen times is a word of granules, each that GPI
-pub nibs-repeated : (x : ℕ) → x < 16 → nibs 16 (repeated x) ≡ replicate 16 x
-nibs-repeated x h = ap (nibs 16) (sym (repeat16 x)) ∙ nibs-replicate 16 x h
-
-pub nib-repeated : (x i : ℕ) → x < 16 → i < 16 → nib (repeated x) i ≡ x
-nib-repeated x i hx hi =
-    sym (getD-nibs 16 (repeated x) i hi) ∙ ap (λ (l : List ℕ). getD l i 0) (nibs-repeated x hx) ∙ getD-replicate 16 i x 0 hi
-
+-- a GPI sixteen times is a word of granules
 pub l1-repeated : (g : Gpi) → l1Of (repeated (num g)) ≡ Granules
 l1-repeated g =
     l1-granules (repeated (num g))
     (ap (all knownAt) (nibs-repeated (num g) (num-lt g)) ∙ all-replicate knownAt 16 (num g) (ap isKnown (gpi-num g)))
-
-pub repeated-lt : (g : Gpi) → repeated (num g) < 2 ^ 64
-repeated-lt g = omega (arith, num-lt g)
-
--- an L0 block word says its GPI, a table word its address
-pub l0-block : (g : Gpi) → l0Of (blockWord g) ≡ Block g
-unfolding l0Of
-l0-block g =
-    let one : blockWord g % 16 ≡ 1 = omega arith in
-    let q : blockWord g / 16 ≡ num g = omega arith in
-    let a : blockWord g / 16 % 16 ≡ num g = ap (λ (x : ℕ). x % 16) q ∙ mod-eq-of-lt (num-lt g) in
-    rw (eq-eqb (blockWord g % 16) 1 one) (ap blockOf (ap gpiAt a ∙ gpi-num g))
-
-pub l0-table : (a w : ℕ) → tableWordOf a ≡ Word w → l0Of w ≡ Table (pa a)
-unfolding tableWordOf l0Of
-l0-table a w e = go (eqb (a % 4096) 0) refl (ltb a (2 ^ 52)) refl
-  where
-    made : a % 4096 ≡ 0 → a < 2 ^ 52 → l0Of (a + 3) ≡ Table (pa a)
-    made z l =
-        let t : (a + 3) % 16 ≡ 3 = omega arith in
-        let q : (a + 3) / 4096 ≡ a / 4096 = omega arith in
-        let f : a / 4096 < 2 ^ 40 = omega arith in
-        let m : a / 4096 * 4096 ≡ a = omega arith in
-        let b : (a + 3) / 4096 % 2 ^ 40 * 4096 ≡ a = ap (λ (x : ℕ). x % 2 ^ 40 * 4096) q ∙ ap (λ (x : ℕ). x * 4096) (mod-eq-of-lt f) ∙ m in
-        rw t (ap (λ (x : ℕ). Table (pa x)) b)
-
-    go : (x : Bool) → eqb (a % 4096) 0 ≡ x → (y : Bool) → ltb a (2 ^ 52) ≡ y → l0Of w ≡ Table (pa a)
-    go true p true q =
-        let k : a + 3 ≡ w = cc in
-        ap l0Of (sym k) ∙ made (eqb-true (a % 4096) 0 p) (ltb-true a (2 ^ 52) q)
-    go true p false q = let z : _≡_ {A = ℕ} 0 1 = cc in absurd (omega arith)
-    go false p y q = let z : _≡_ {A = ℕ} 0 1 = cc in absurd (omega arith)

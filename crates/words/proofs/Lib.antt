@@ -1,4 +1,3 @@
-pub mod Store
 pub mod Entries
 pub mod Packed
 pub mod Alike

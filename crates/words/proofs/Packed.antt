@@ -1,118 +1,27 @@
--- Sixteen GPIs and their word: the loops that make the one from the other, and both round trips.
+-- Sixteen GPIs and a word of granules: what was made is one, and what was read back are its granules.
 -- Assumes nothing.
-use mathlib.Core.Path.{_≡_, refl, sym, ap, ap₂, _∙_, subst}
-use mathlib.Core.List.{List, [], _∷_, _++_, map, append-assoc, append-nil}
-use mathlib.Core.Bool.{Bool, true, false}
-use Prim.Native.Nat.{ℕ, suc, _+_, _-_, _*_, _/_, _%_, _^_, _≤_, _<_}
-use native.Mathlib.Nat.{lt-of-lt-of-le, pow-le-pow-right}
-use native.Mathlib.Numerals.{add-one}
-use native.Mathlib.Omega.{arith}
-use lib.Dec.{lit<}
-use lib.ListN.{length, getD, set, take, drop, length-drop, length-set, length-map}
-use lib.Seq.{drop-cons, drop-length, take-suc-set, take-all}
+use mathlib.Core.Path.{_≡_, ap, _∙_}
+use mathlib.Core.List.{List, map}
+use Prim.Native.Nat.{ℕ, _^_, _<_}
+use lib.ListN.{length}
 use Rattle.gpi.specs.declared.Gpi.{Gpi}
-use Rattle.gpi.specs.declared.Nibble.{Nibble}
-use Rattle.gpi.specs.declared.Nibble.the-variants.{Known, Reserved}
-use Rattle.gpi.specs.Gpi.{num, gpiAt, isKnown, knownAt}
-use Rattle.gpi.proofs.Rules.{num-lt, num-at, gpi-num}
-use Rattle.gpi.proofs.Table.{and-both}
+use Rattle.gpi.specs.Gpi.{num, knownAt}
 use Rattle.nibbles.specs.Nibs.{nibs, word, all}
-use Rattle.words.specs.L1.{l1Of, granuleWord, gpisOf, orNoAccess}
+use Rattle.nibbles.specs.Packed.{granuleWord, gpisOf}
+use Rattle.words.specs.L1.{l1Of}
 use Rattle.words.specs.declared.L1Entry.the-variants.{Granules}
-use Rattle.nibbles.proofs.Digits.{Small, nibs-step, word-lt, nibs-word, word-nibs}
+use Rattle.nibbles.proofs.Digits.{word-nibs}
+use Rattle.nibbles.proofs.Packed.{known-nums, back-nums, nibs-packed}
 use Rattle.words.proofs.Entries.{l1-granules, granules-known}
 
-small-nums : (l : List Gpi) → Small (map num l)
-small-nums [] = tt
-small-nums (g ∷ l) = (num-lt g, small-nums l)
-
-known-nums : (l : List Gpi) → all knownAt (map num l) ≡ true
-known-nums [] = refl
-known-nums (g ∷ l) = rw (gpi-num g) (known-nums l)
-
--- ---- making a word, from the last GPI to the first
-
-module _ (d : Gpi) (a : List Gpi) (n : ℕ) (h : 0 < n) (l : n ≤ length a) where
-  pub pack : granuleWord (drop (n - 1) a) ≡ num (getD a (n - 1) d) + granuleWord (drop n a) * 16
-  unfolding word
-  pack =
-      let e : suc (n - 1) ≡ n = omega arith in
-      ap granuleWord (drop-cons a (n - 1) d (omega arith))
-      ∙ ap (λ (k : ℕ). num (getD a (n - 1) d) + granuleWord (drop k a) * 16) e
-
-pub pack-lt : (a : List Gpi) (n : ℕ) → length a ≡ 16 → granuleWord (drop n a) < 2 ^ 64
-pack-lt a n e =
-    lt-of-lt-of-le (word-lt (map num (drop n a)) (small-nums (drop n a)))
-    (pow-le-pow-right {n = 16} (lit< tt) {j = 16} (simp (length-map, length-drop) (omega arith)))
-
-pub pack-none : (a : List Gpi) → length a ≡ 16 → granuleWord (drop 16 a) ≡ 0
-unfolding word
-pack-none a e = ap granuleWord (subst (λ (k : ℕ). drop k a ≡ []) e (drop-length a))
-
--- ---- taking a word apart, from the first GPI to the last
-
-abbrev back : ℕ → Gpi
-back n = orNoAccess (gpiAt n)
-
--- where a walk that has stored n GPIs stands: those, and the GPIs of what is left of v, are l
-abbrev pub Taking : List Gpi → List Gpi → ℕ → ℕ → Type 0
-Taking l a v n = (n ≤ 16) × (length a ≡ 16) × (take n a ++ map (λ x. orNoAccess (gpiAt x)) (nibs (16 - n) v) ≡ l)
-
-pub take-one : (l a : List Gpi) (v n : ℕ) → n < 16 → Taking l a v n → Taking l (set a n (back (v % 16))) (v / 16) (n + 1)
-take-one l a v n h t =
-    let s : take (n + 1) (set a n (back (v % 16))) ≡ take n a ++ (back (v % 16) ∷ []) =
-    ap (λ (k : ℕ). take k (set a n (back (v % 16)))) (add-one n) ∙ take-suc-set a n (back (v % 16)) (omega arith) in
-    let k : 16 - (n + 1) ≡ 16 - n - 1 = omega arith in
-    let m : nibs (16 - n) v ≡ v % 16 ∷ nibs (16 - n - 1) (v / 16) = nibs-step (16 - n) v (omega arith) in
-    (omega arith, length-set a n (back (v % 16)) ∙ t .1, rw (s, append-assoc, k) (rw m at (t .2)))
-
-pub take-end : (l a : List Gpi) (v n : ℕ) → 16 ≤ n → Taking l a v n → a ≡ l
-unfolding nibs
-take-end l a v n h t =
-    let n16 : n ≡ 16 = omega arith in
-    let e : take 16 a ≡ a = take-all 16 a (omega arith) in
-    let q : take 16 a ++ [] ≡ l = subst (λ (m : ℕ). take m a ++ map (λ x. orNoAccess (gpiAt x)) (nibs (16 - m) v) ≡ l) n16 (t .2) in
-    rw (append-nil, e) at q
-
--- ---- the round trips
-
--- of a word of sixteen GPIs, the GPIs read back have its nibbles as their numbers
-back-num : (n : ℕ) → knownAt n ≡ true → num (back n) ≡ n
-back-num n t = go (gpiAt n) refl
-  where
-    go : (x : Nibble) → gpiAt n ≡ x → num (orNoAccess x) ≡ n
-    go (Known g) e = sym (num-at n g e)
-    go Reserved e =
-        let p : false ≡ true = sym (ap isKnown e) ∙ t in
-        let z : _≡_ {A = ℕ} 0 1 = cc in
-        absurd (omega arith)
-
-back-nums : (l : List ℕ) → all knownAt l ≡ true → map num (map (λ x. orNoAccess (gpiAt x)) l) ≡ l
-back-nums [] t = refl
-back-nums (x ∷ l) t =
-    let b = and-both (knownAt x) (all knownAt l) t in
-    ap₂ (λ (y : ℕ) (ys : List ℕ). y ∷ ys) (back-num x (b .0)) (back-nums l (b .1))
-
+-- the GPIs of a word of granules have its nibbles as their numbers
 pub gpis-nibs : (w : ℕ) → l1Of w ≡ Granules → map num (gpisOf w) ≡ nibs 16 w
 unfolding gpisOf
 gpis-nibs w e = back-nums (nibs 16 w) (granules-known w e)
 
--- the numbers of sixteen GPIs are the nibbles of their word, which is a word of granules
-pub nibs-packed : (a : List Gpi) → length a ≡ 16 → nibs 16 (granuleWord a) ≡ map num a
-nibs-packed a e =
-    ap (λ (k : ℕ). nibs k (granuleWord a)) (sym (length-map a num ∙ e)) ∙ nibs-word (map num a) (small-nums a)
-
+-- the word of sixteen GPIs is one of granules
 pub l1-packed : (a : List Gpi) → length a ≡ 16 → l1Of (granuleWord a) ≡ Granules
 l1-packed a e = l1-granules (granuleWord a) (ap (all knownAt) (nibs-packed a e) ∙ known-nums a)
-
-nums-back : (l : List Gpi) → map (λ x. orNoAccess (gpiAt x)) (map num l) ≡ l
-nums-back [] = refl
-nums-back (g ∷ l) = ap₂ (λ (x : Gpi) (xs : List Gpi). x ∷ xs) (ap orNoAccess (gpi-num g)) (nums-back l)
-
--- sixteen GPIs made into a word and read back
-pub there-and-back : (a : List Gpi) → length a ≡ 16 → gpisOf (granuleWord a) ≡ a
-unfolding gpisOf
-there-and-back a e = ap (map (λ x. orNoAccess (gpiAt x))) (nibs-packed a e) ∙ nums-back a
 
 -- a word of granules read into sixteen GPIs and made again
 pub back-and-there : (w : ℕ) → w < 2 ^ 64 → l1Of w ≡ Granules → granuleWord (gpisOf w) ≡ w

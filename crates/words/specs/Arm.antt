@@ -9,7 +9,8 @@ use Rattle.gpi.specs.Gpi.{knownAt}
 use Rattle.gpi.specs.Size.{sizeNum}
 use Rattle.tables.specs.Format.{Format}
 use Rattle.nibbles.specs.Nibs.{nib}
-use Rattle.words.specs.L1.{l1Of, repeated, put, flat}
+use Rattle.nibbles.specs.Packed.{repeated, put}
+use Rattle.words.specs.L1.{l1Of, flat}
 use Rattle.words.specs.declared.L1Entry.{L1Entry}
 use Rattle.words.specs.declared.L1Entry.the-variants.{Contiguous, Granules, Invalid}
 

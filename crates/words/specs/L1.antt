@@ -2,11 +2,8 @@
 -- Assumes nothing: these are definitions.
 use Prim.Native.Nat.{ℕ, _+_, _*_, _/_, _%_, _^_}
 use mathlib.Core.Bool.{Bool, true, false, cond}
-use mathlib.Core.List.{List, map}
 use lib.Dec.{eqb}
-use lib.ListN.{set}
 use Rattle.gpi.specs.declared.Gpi.{Gpi}
-use Rattle.gpi.specs.declared.Gpi.the-variants.{NoAccess}
 use Rattle.gpi.specs.declared.Nibble.{Nibble}
 use Rattle.gpi.specs.declared.Nibble.the-variants.{Known, Reserved}
 use Rattle.gpi.specs.declared.Size.{Size}
@@ -14,7 +11,8 @@ use Rattle.gpi.specs.declared.SizeCode.{SizeCode}
 use Rattle.gpi.specs.declared.SizeCode.the-variants.{Is, None}
 use Rattle.gpi.specs.Gpi.{num, gpiAt, knownAt}
 use Rattle.gpi.specs.Size.{sizeNum, sizeAt}
-use Rattle.nibbles.specs.Nibs.{nib, nibs, word, all}
+use Rattle.nibbles.specs.Nibs.{nib, nibs, all}
+use Rattle.nibbles.specs.Packed.{repeated}
 use Rattle.words.specs.declared.L1Entry.{L1Entry}
 use Rattle.words.specs.declared.L1Entry.the-variants.{Contiguous, Granules, Invalid}
 use Rattle.words.specs.declared.Match.{Match}
@@ -65,26 +63,6 @@ matchAt w g = matchOf (l1Of w) w g
 -- the contiguous word; "zero when written" of the higher bits
 abbrev pub contigWord : Size → Gpi → ℕ
 contigWord s g = sizeNum s * 2 ^ 8 + num g * 2 ^ 4 + 1
-
--- "A word is made from an array of sixteen GPIs and read back into one." A reserved nibble comes back as NoAccess: only of a word of
--- sixteen GPIs are these its granules (`gpis-nibs`).
-abbrev pub granuleWord : List Gpi → ℕ
-granuleWord gs = word (map num gs)
-
-abbrev pub orNoAccess : Nibble → Gpi
-orNoAccess (Known g) = g
-orNoAccess Reserved = NoAccess
-
-unfoldable pub gpisOf : ℕ → List Gpi
-gpisOf w = map (λ n. orNoAccess (gpiAt n)) (nibs 16 w)
-
--- the granule store: w with nibble i made n
-abbrev pub put : ℕ → ℕ → ℕ → ℕ
-put w i n = word (set (nibs 16 w) i n)
-
--- the nibble n sixteen times (`repeat16`)
-abbrev pub repeated : ℕ → ℕ
-repeated n = n * 0x1111_1111_1111_1111
 
 -- ---- flat: a contiguous word as the granule word that reads the same, any other word as it is
 

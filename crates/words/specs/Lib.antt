@@ -1,3 +1,2 @@
-pub mod L0
 pub mod L1
 pub mod Arm

@@ -7,8 +7,8 @@ use native.Mathlib.Nat.{lt-of-lt-of-le}
 use native.Mathlib.Omega.{arith}
 use borrow.Author.Needs.{needs}
 use lib.ListN.{length, getD}
-use Rattle.words.specs.declared.L0Entry.the-variants.{Table as TableWord}
-use Rattle.words.specs.L0.{l0Of}
+use Rattle.l0.specs.declared.L0Entry.the-variants.{Table as TableWord}
+use Rattle.l0.specs.L0.{l0Of}
 use Rattle.config.specs.Index.{l0Entries, l0Index, l1Words}
 use Rattle.config.proofs.Geometry.{l0-in, l1-most}
 use Rattle.place.specs.declared.Place.the-variants.{Table}

@@ -1,14 +1,14 @@
 -- `place::seek` meets its contract: the links of the chain, as in `locate`; a call that is no set passes those of the log and of the GPI.
 -- Assumes nothing.
-use mathlib.Core.Path.{_≡_, refl, sym, ap, _∙_}
+use mathlib.Core.Path.{_≡_, sym, ap, _∙_}
 use mathlib.Core.Bool.{false}
-use Prim.Native.Nat.{ℕ, _≤_, _<_, _^_}
+use Prim.Native.Nat.{ℕ, _≤_, _<_}
 use native.Mathlib.Nat.{lt-of-lt-of-le}
 use native.Mathlib.Omega.{arith}
 use borrow.Author.Needs.{needs}
 use lib.ListN.{length, getD}
-use Rattle.words.specs.declared.L0Entry.the-variants.{Table as TableWord}
-use Rattle.words.specs.L0.{l0Of}
+use Rattle.l0.specs.declared.L0Entry.the-variants.{Table as TableWord}
+use Rattle.l0.specs.L0.{l0Of}
 use Rattle.config.specs.declared.Config.{Config}
 use Rattle.config.specs.Index.{l0Entries, l0Index, l1Words}
 use Rattle.config.proofs.Geometry.{l0-in, l1-most}

@@ -11,8 +11,8 @@ use Rattle.gpi.specs.Size.{sizeNum, smallerOf}
 use Rattle.gpi.specs.declared.SizeCode.the-variants.{Is, None}
 use Rattle.gpi.proofs.Rules.{smaller-num}
 use Rattle.gpi.proofs.next_smaller.Reads as next-smaller-reads
+use Rattle.nibbles.proofs.granule.Reads as granule-reads
 use Rattle.words.proofs.contig.Reads as contig-reads
-use Rattle.words.proofs.granule.Reads as granule-reads
 use Rattle.stores.proofs.Places.{Lies, still}
 use Rattle.shatter.proofs.Steps.{last-fills, last-done, part-lies, part-most, first-fills, inward-room, second-fills, all-done}
 use Rattle.shatter.proofs.shatter_contig.Reads as shatter

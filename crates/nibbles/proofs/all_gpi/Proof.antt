@@ -1,4 +1,4 @@
--- `words::all_gpi` meets its contract. The invariant: what is left says the same as the whole.
+-- `nibbles::all_gpi` meets its contract. The invariant: what is left says the same as the whole.
 -- Assumes nothing.
 use mathlib.Core.Path.{_≡_, sym, _∙_}
 use Prim.Native.Nat.{_%_, _≤_}
@@ -6,10 +6,10 @@ use native.Mathlib.Omega.{arith}
 use borrow.Author.Needs.{needs}
 use borrow.Author.Tests.{eq-eqb, ne-eqb}
 use lib.Dec.{eqb}
 use Rattle.nibbles.specs.Nibs.{nibs, all}
 use Rattle.nibbles.proofs.Digits.{walk-end, walk-miss, walk-hit}
-use Rattle.words.proofs.all_gpi.Statement.{statement}
-use Rattle.words.proofs.all_gpi.Tie as tie
+use Rattle.nibbles.proofs.all_gpi.Statement.{statement}
+use Rattle.nibbles.proofs.all_gpi.Tie as tie
 
 abbrev Inv-loop : tie.InvT-loop
 Inv-loop w x v₀ n₀ v n = (n ≤ 16) × (all (eqb x) (nibs 16 w) ≡ all (eqb x) (nibs n v))

@@ -1,14 +1,14 @@
--- `words::l0_entry` meets its contract.
+-- `l0::l0_entry` meets its contract.
 -- Assumes nothing.
 use mathlib.Core.Path.{sym, ap, _∙_}
 use borrow.Author.Tests.{ne-eqb}
 use borrow.Author.Needs.{needs}
 use lib.Bits.{and-high}
 use Rattle.pa.specs.Pa.{pa}
-use Rattle.words.specs.L0.{l0Of}
-use Rattle.words.specs.declared.L0Entry.the-variants.{Table}
-use Rattle.words.proofs.l0_entry.Statement.{statement}
-use Rattle.words.proofs.l0_entry.Tie as tie
+use Rattle.l0.specs.L0.{l0Of}
+use Rattle.l0.specs.declared.L0Entry.the-variants.{Table}
+use Rattle.l0.proofs.l0_entry.Statement.{statement}
+use Rattle.l0.proofs.l0_entry.Tie as tie
 
 gpi-of-requires : tie.Need-gpi-of-requires
 gpi-of-requires c κs = search needs

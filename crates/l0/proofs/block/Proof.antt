@@ -1,10 +1,10 @@
--- `words::block` meets its contract.
+-- `l0::block` meets its contract.
 -- Assumes nothing.
 use native.Mathlib.Omega.{arith}
 use Rattle.gpi.proofs.Rules.{num-lt}
 use borrow.Author.Needs.{needs}
-use Rattle.words.proofs.block.Statement.{statement}
-use Rattle.words.proofs.block.Tie as tie
+use Rattle.l0.proofs.block.Statement.{statement}
+use Rattle.l0.proofs.block.Tie as tie
 
 number-requires : tie.Need-number-requires
 number-requires c κs = search needs

@@ -1,4 +1,4 @@
--- `words::granule` meets its contract. The invariant: the word is that of the GPIs from n on.
+-- `nibbles::granule` meets its contract. The invariant: the word is that of the GPIs from n on.
 -- Assumes nothing.
 use mathlib.Core.Path.{_≡_, sym, ap, _∙_}
 use Prim.Native.Nat.{ℕ, _+_, _-_, _*_, _≤_}
@@ -6,10 +6,10 @@ use native.Mathlib.Omega.{arith}
 use borrow.Author.Needs.{needs}
 use lib.ListN.{length, drop}
 use Rattle.gpi.specs.declared.Gpi.the-variants.{NoAccess}
-use Rattle.words.specs.L1.{granuleWord}
-use Rattle.words.proofs.Packed.{pack, pack-lt, pack-none}
-use Rattle.words.proofs.granule.Statement.{statement}
-use Rattle.words.proofs.granule.Tie as tie
+use Rattle.nibbles.specs.Packed.{granuleWord}
+use Rattle.nibbles.proofs.Packed.{pack, pack-lt, pack-none}
+use Rattle.nibbles.proofs.granule.Statement.{statement}
+use Rattle.nibbles.proofs.granule.Tie as tie
 
 abbrev Inv-loop : tie.InvT-loop
 Inv-loop gpis w₀ n₀ w n = (n ≤ 16) × (w ≡ granuleWord (drop n gpis))

@@ -8,10 +8,10 @@ use Rattle.gpi.specs.declared.Nibble.{Nibble}
 use Rattle.gpi.specs.declared.Nibble.the-variants.{Known, Reserved}
 use Rattle.gpi.specs.Gpi.{num, gpiAt}
 use Rattle.pa.specs.Pa.{pa}
-use Rattle.words.specs.declared.L0Entry.{L0Entry}
-use Rattle.words.specs.declared.L0Entry.the-variants.{Block, Table, Invalid}
-use Rattle.words.specs.declared.TableWord.{TableWord}
-use Rattle.words.specs.declared.TableWord.the-variants.{Word, Refused}
+use Rattle.l0.specs.declared.L0Entry.{L0Entry}
+use Rattle.l0.specs.declared.L0Entry.the-variants.{Block, Table, Invalid}
+use Rattle.l0.specs.declared.TableWord.{TableWord}
+use Rattle.l0.specs.declared.TableWord.the-variants.{Word, Refused}
 
 abbrev pub blockOf : Nibble → L0Entry
 blockOf (Known g) = Block g

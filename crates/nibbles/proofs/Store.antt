@@ -9,9 +9,9 @@ use lib.Pow.{pow-add, shl-exact}
 use lib.Dec.{lit<}
 use lib.ListN.{length, getD, set, length-set}
 use lib.Seq.{getD-set-same, getD-set-other}
 use Rattle.nibbles.specs.Nibs.{nib, nibs}
-use Rattle.words.specs.L1.{put}
+use Rattle.nibbles.specs.Packed.{put}
 use Rattle.nibbles.proofs.Digits.{Small, length-nibs, small-nibs, getD-nibs, word-nibs, nibs-word, word-lt, small-set, word-set}
 
 -- a shift by 4 * i is by i nibbles
 pub shift16 : (i : ℕ) → 2 ^ (4 * i) ≡ 16 ^ i

@@ -1,13 +1,13 @@
--- `words::gpis` meets its contract. The invariant: the GPIs stored, and those of the nibbles left, are the word's.
+-- `nibbles::gpis` meets its contract. The invariant: the GPIs stored, and those of the nibbles left, are the word's.
 -- Assumes nothing.
-use mathlib.Core.Path.{refl, sym}
+use mathlib.Core.Path.{refl}
 use Prim.Native.Nat.{_-_}
 use native.Mathlib.Omega.{arith}
 use borrow.Author.Needs.{needs}
-use Rattle.words.specs.L1.{gpisOf}
-use Rattle.words.proofs.Packed.{Taking, take-one, take-end}
-use Rattle.words.proofs.gpis.Statement.{statement}
-use Rattle.words.proofs.gpis.Tie as tie
+use Rattle.nibbles.specs.Packed.{gpisOf}
+use Rattle.nibbles.proofs.Packed.{Taking, take-one, take-end}
+use Rattle.nibbles.proofs.gpis.Statement.{statement}
+use Rattle.nibbles.proofs.gpis.Tie as tie
 
 abbrev Inv-loop : tie.InvT-loop
 Inv-loop w a₀ v₀ n₀ a v n = Taking (gpisOf w) a v n

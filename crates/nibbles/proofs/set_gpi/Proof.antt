@@ -1,15 +1,14 @@
--- `words::set_gpi` meets its contract: what is taken away is the old nibble's share, what is added the new one's.
+-- `nibbles::set_gpi` meets its contract: what is taken away is the old nibble's share, what is added the new one's.
 -- Assumes nothing.
-use mathlib.Core.Path.{_≡_, _∙_, ap, sym}
-use Prim.Native.Nat.{ℕ, _<_}
+use mathlib.Core.Path.{_∙_, ap}
+use Prim.Native.Nat.{_<_}
 use native.Mathlib.Omega.{arith}
 use borrow.Author.Needs.{needs}
-use Rattle.gpi.specs.Gpi.{num}
 use Rattle.gpi.proofs.Rules.{num-lt}
-use Rattle.words.specs.L1.{put}
-use Rattle.words.proofs.Store.{taken, stored, nib-le, put-lt}
-use Rattle.words.proofs.set_gpi.Statement.{statement}
-use Rattle.words.proofs.set_gpi.Tie as tie
+use Rattle.nibbles.specs.Packed.{put}
+use Rattle.nibbles.proofs.Store.{taken, stored, nib-le, put-lt}
+use Rattle.nibbles.proofs.set_gpi.Statement.{statement}
+use Rattle.nibbles.proofs.set_gpi.Tie as tie
 
 -- the number that is stored is a nibble
 small : (c : tie.After-number) → c .number .result < 16

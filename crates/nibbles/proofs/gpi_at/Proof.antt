@@ -1,11 +1,11 @@
--- `words::gpi_at` meets its contract: a shift by four times i, and the low nibble.
+-- `nibbles::gpi_at` meets its contract: a shift by four times i, and the low nibble.
 -- Assumes nothing.
 use mathlib.Core.Path.{_∙_, ap}
 use borrow.Author.Needs.{needs}
 use Rattle.gpi.specs.Gpi.{gpiAt}
-use Rattle.words.proofs.Store.{shifted-nib}
-use Rattle.words.proofs.gpi_at.Statement.{statement}
-use Rattle.words.proofs.gpi_at.Tie as tie
+use Rattle.nibbles.proofs.Store.{shifted-nib}
+use Rattle.nibbles.proofs.gpi_at.Statement.{statement}
+use Rattle.nibbles.proofs.gpi_at.Tie as tie
 
 mul-gpi-of : tie.Need-mul-gpi-of
 mul-gpi-of c = search needs

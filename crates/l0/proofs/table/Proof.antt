@@ -1,10 +1,10 @@
--- `words::table` meets its contract: the tests that led to each return pick the definition's case.
+-- `l0::table` meets its contract: the tests that led to each return pick the definition's case.
 -- Assumes nothing.
 use borrow.Author.Tests.{eq-eqb, ne-eqb, lt-ltb, le-ltb}
 use borrow.Author.Needs.{needs}
-use Rattle.words.specs.L0.{tableWordOf}
-use Rattle.words.proofs.table.Statement.{statement}
-use Rattle.words.proofs.table.Tie as tie
+use Rattle.l0.specs.L0.{tableWordOf}
+use Rattle.l0.proofs.table.Statement.{statement}
+use Rattle.l0.proofs.table.Tie as tie
 
 returns : tie.Need-returns
 unfolding tableWordOf
