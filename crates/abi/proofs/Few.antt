@@ -23,10 +23,10 @@ use Rattle.config.specs.declared.Config.{Config}
 use Rattle.place.specs.declared.Site.{Site}
 use Rattle.place.specs.declared.Place.{Place}
 use Rattle.place.specs.declared.Place.the-variants.{No, Block, Table}
-use Rattle.place.specs.declared.Refusal.{Refusal}
-use Rattle.place.specs.declared.Refusal.the-variants.{InvalidRequest, InvalidL1Entry}
+use Rattle.refusals.specs.declared.Refusal.{Refusal}
+use Rattle.refusals.specs.declared.Refusal.the-variants.{InvalidRequest, InvalidL1Entry}
 use Rattle.place.specs.Place.{placeOf, tableOf}
-use Rattle.place.proofs.Numbers.{refusal-number}
+use Rattle.refusals.proofs.Numbers.{refusal-number}
 use Rattle.place.proofs.Promises.{resolved, table-length}
 use Rattle.stores.specs.declared.Tally.{Tally}
 use Rattle.sets.specs.Table.{answerOf}

@@ -44,7 +44,7 @@ fn pack_looked(s: Looked) -> u64
 {
     match s {
         Looked::Ok(g) => 256 * gpi::number(g),
-        Looked::Refused(r) => place::number(r),
+        Looked::Refused(r) => refusals::number(r),
     }
 }
 
@@ -62,7 +62,7 @@ fn pack_changed(a: Changed) -> u64
     match a {
         Changed::Done(t) => pack_tally(0, t),
         Changed::Stopped(t) => pack_tally(10, t),
-        Changed::Refused(r) => place::number(r),
+        Changed::Refused(r) => refusals::number(r),
     }
 }
 
@@ -72,7 +72,7 @@ fn pack_mended(m: Mended) -> u64
 {
     match m {
         Mended::Ok(n) => 65536 * n,
-        Mended::Refused(r) => place::number(r),
+        Mended::Refused(r) => refusals::number(r),
     }
 }
 
@@ -82,7 +82,7 @@ fn pack_checked(k: Checked) -> u64
     match k {
         Checked::Yes => 256,
         Checked::No => 0,
-        Checked::Refused(r) => place::number(r),
+        Checked::Refused(r) => refusals::number(r),
     }
 }
 

@@ -11,7 +11,8 @@ use Rattle.l0.specs.L0.{l0Of}
 use Rattle.words.specs.L1.{l1Of}
 use Rattle.config.specs.declared.Config.{Config}
 use Rattle.config.specs.Fields.{configuredOf}
-use Rattle.place.specs.Place.{arenaBad, outside, siteOf, located, placeOf}
+use Rattle.refusals.specs.Refusals.{arenaBad, outside}
+use Rattle.place.specs.Place.{siteOf, located, placeOf}
 use Rattle.gpt.specs.declared.Looked.{Looked}
 use Rattle.gpt.specs.declared.Looked.the-variants.{Ok}
 use Rattle.gpt.specs.Lookup.{lookedNumber, lookedGpi, lookedAt, lookupOf}

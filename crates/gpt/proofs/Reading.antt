@@ -10,7 +10,7 @@ use Rattle.gpi.specs.declared.Nibble.the-variants.{Known}
 use Rattle.pa.specs.Pa.{pa}
 use Rattle.config.specs.declared.Config.{Config}
 use Rattle.config.specs.Fields.{supportedOf}
-use Rattle.place.specs.declared.Call.the-variants.{Plain}
+use Rattle.refusals.specs.declared.Call.the-variants.{Plain}
 use Rattle.place.specs.declared.Site.{Site}
 use Rattle.place.specs.declared.Place.{Place}
 use Rattle.place.specs.declared.Place.the-variants.{No, Block, Table}

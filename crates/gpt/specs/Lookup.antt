@@ -14,10 +14,11 @@ use Rattle.config.specs.Fields.{supportedOf}
 use Rattle.place.specs.declared.Ask.{Ask}
 use Rattle.place.specs.declared.Place.{Place}
 use Rattle.place.specs.declared.Place.the-variants.{No, Block, Table}
-use Rattle.place.specs.declared.Refusal.{Refusal}
-use Rattle.place.specs.declared.Refusal.the-variants.{InvalidL0Entry, InvalidL1Entry}
+use Rattle.refusals.specs.declared.Refusal.{Refusal}
+use Rattle.refusals.specs.declared.Refusal.the-variants.{InvalidL0Entry, InvalidL1Entry}
 use Rattle.place.specs.declared.Site.{Site}
-use Rattle.place.specs.Place.{refusalNumber, placeOf, seeking, tableOf}
+use Rattle.refusals.specs.Refusals.{refusalNumber}
+use Rattle.place.specs.Place.{placeOf, seeking, tableOf}
 use Rattle.gpt.specs.declared.Looked.{Looked}
 use Rattle.gpt.specs.declared.Looked.the-variants.{Ok, Refused}
 

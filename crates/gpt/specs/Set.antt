@@ -17,13 +17,14 @@ use Rattle.tables.specs.Set.{fusing}
 use Rattle.words.specs.Arm.{arm}
 use Rattle.config.specs.declared.Config.{Config}
 use Rattle.place.specs.declared.Ask.{Ask}
-use Rattle.place.specs.declared.Call.the-variants.{Set}
+use Rattle.refusals.specs.declared.Call.the-variants.{Set}
 use Rattle.place.specs.declared.Site.{Site}
 use Rattle.place.specs.declared.Place.{Place}
 use Rattle.place.specs.declared.Place.the-variants.{No, Block, Table}
-use Rattle.place.specs.declared.Refusal.{Refusal}
-use Rattle.place.specs.declared.Refusal.the-variants.{InvalidRequest, InvalidL1Entry}
-use Rattle.place.specs.Place.{refusalNumber, placeOf, tableOf}
+use Rattle.refusals.specs.declared.Refusal.{Refusal}
+use Rattle.refusals.specs.declared.Refusal.the-variants.{InvalidRequest, InvalidL1Entry}
+use Rattle.refusals.specs.Refusals.{refusalNumber}
+use Rattle.place.specs.Place.{placeOf, tableOf}
 use Rattle.stores.specs.declared.Job.{Job}
 use Rattle.sets.specs.declared.Answer.{Answer}
 use Rattle.sets.specs.declared.Answer.the-variants.{Done as Finished, Stopped as Cut, Invalid}

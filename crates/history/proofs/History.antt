@@ -29,11 +29,12 @@ use Rattle.config.specs.Index.{l0Index, l1Words, granuleBytes}
 use Rattle.config.proofs.Geometry.{words-least}
 use Rattle.place.specs.declared.Place.{Place}
 use Rattle.place.specs.declared.Place.the-variants.{No, Block, Table}
-use Rattle.place.specs.declared.Refusal.{Refusal}
-use Rattle.place.specs.declared.Refusal.the-variants.{InvalidRequest}
+use Rattle.refusals.specs.declared.Refusal.{Refusal}
+use Rattle.refusals.specs.declared.Refusal.the-variants.{InvalidRequest}
 use Rattle.place.specs.declared.Site.{Site}
-use Rattle.place.specs.Place.{refusalNumber, siteOf, tableOf}
-use Rattle.place.proofs.Numbers.{refusal-number}
+use Rattle.refusals.specs.Refusals.{refusalNumber}
+use Rattle.place.specs.Place.{siteOf, tableOf}
+use Rattle.refusals.proofs.Numbers.{refusal-number}
 use Rattle.place.proofs.Granules.{same-granule, same-indices}
 use Rattle.gpt.specs.declared.Looked.the-variants.{Ok}
 use Rattle.gpt.specs.Lookup.{plain}

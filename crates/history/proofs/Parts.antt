@@ -34,7 +34,7 @@ use Rattle.config.specs.Fields.{Listed, configuredOf, supportedOf}
 use Rattle.config.specs.Index.{l0Index, l1Words, l1Index, granuleIndex, granuleBytes, sizeWords}
 use Rattle.config.proofs.Bounds.{listed-widths}
 use Rattle.place.specs.declared.Ask.{Ask}
-use Rattle.place.specs.declared.Call.the-variants.{Plain}
+use Rattle.refusals.specs.declared.Call.the-variants.{Plain}
 use Rattle.place.specs.declared.Place.{Place}
 use Rattle.place.specs.declared.Place.the-variants.{No, Block, Table}
 use Rattle.place.specs.declared.Site.{Site}

@@ -12,7 +12,7 @@ use lib.Seq.{sets}
 use Rattle.gpi.specs.declared.Gpi.{Gpi}
 use Rattle.gpi.specs.declared.Gpi.the-variants.{NoAccess, SystemAgent, NonSecureProtected, NoAccess6, NoAccess7, Secure, NonSecure, Root, Realm, NonSecureOnly, Any}
 use Rattle.config.specs.declared.Widths.{Widths}
-use Rattle.place.specs.Place.{refusalNumber}
+use Rattle.refusals.specs.Refusals.{refusalNumber}
 use Rattle.gpt.specs.declared.Looked.{Looked}
 use Rattle.gpt.specs.declared.Looked.the-variants.{Ok, Refused}
 use Rattle.lines.specs.declared.Run.{Run}

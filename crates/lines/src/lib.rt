@@ -7,7 +7,7 @@ ghost use Rattle.lines.specs.Lines.{digitOf, hex, dec, gpiName, names, n
 use config::Widths;
 use gpi::Gpi;
 use gpt::Looked;
-use place::Refusal;
+use refusals::Refusal;
 
 // Addresses from start to last that answer alike.
 pub struct Run {
@@ -115,7 +115,7 @@ fn name_len(a: Looked) -> usize
 {
     match a {
         Looked::Ok(g) => gpi_len(g),
-        Looked::Refused(r) => 8 + dec_len(place::number(r)),
+        Looked::Refused(r) => 8 + dec_len(refusals::number(r)),
     }
 }
 
@@ -134,7 +134,7 @@ fn put_name(out: &mut [u8], at: usize, a: Looked) -> usize
 {
     match a {
         Looked::Ok(g) => put_gpi(out, at, g),
-        Looked::Refused(r) => put_numbered(out, at, b"refused ", place::number(r)),
+        Looked::Refused(r) => put_numbered(out, at, b"refused ", refusals::number(r)),
     }
 }
 

@@ -23,7 +23,7 @@ use Rattle.place.specs.Place.{placeOf, tableOf}
 use Rattle.place.specs.Sited.{Sited}
 use Rattle.place.proofs.Promises.{table-length}
 use Rattle.pa.specs.Pa.{pa}
-use Rattle.place.specs.declared.Call.the-variants.{Plain}
+use Rattle.refusals.specs.declared.Call.the-variants.{Plain}
 use Rattle.gpt.specs.Lookup.{plain}
 use Rattle.mend.specs.declared.Checked.the-variants.{Yes}
 use Rattle.normal.specs.Normal.{isNormal}

@@ -16,7 +16,8 @@ use Rattle.words.specs.L1.{l1Of}
 use Rattle.words.specs.Arm.{arm}
 use Rattle.config.specs.declared.Config.{Config}
 use Rattle.config.specs.Fields.{configuredOf}
-use Rattle.place.specs.Place.{arenaBad, outside, siteOf, located, placeOf}
+use Rattle.refusals.specs.Refusals.{arenaBad, outside}
+use Rattle.place.specs.Place.{siteOf, located, placeOf}
 use Rattle.mend.specs.declared.Mended.{Mended}
 use Rattle.normal.specs.Normal.{isNormal}
 use Rattle.mend.specs.Outcome.{mendedNumber, mendedStores, checkedNumber, checkedYes, mendedAt, mendOf, checkedAt, checkOf}

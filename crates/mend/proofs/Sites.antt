@@ -9,8 +9,8 @@ use Rattle.gpi.specs.declared.Gpi.{Gpi}
 use Rattle.words.specs.Arm.{arm}
 use Rattle.config.specs.declared.Config.{Config}
 use Rattle.place.specs.declared.Place.the-variants.{No as Nowhere, Block, Table}
-use Rattle.place.specs.declared.Refusal.{Refusal}
-use Rattle.place.specs.declared.Refusal.the-variants.{InvalidRequest}
+use Rattle.refusals.specs.declared.Refusal.{Refusal}
+use Rattle.refusals.specs.declared.Refusal.the-variants.{InvalidRequest}
 use Rattle.place.specs.declared.Site.{Site}
 use Rattle.place.specs.Place.{placeOf, tableOf}
 use Rattle.place.specs.Sited.{Sited}

@@ -11,9 +11,10 @@ use Rattle.words.specs.Arm.{arm}
 use Rattle.config.specs.declared.Config.{Config}
 use Rattle.place.specs.declared.Place.{Place}
 use Rattle.place.specs.declared.Place.the-variants.{No as Nowhere, Block, Table}
-use Rattle.place.specs.declared.Refusal.the-variants.{InvalidRequest}
+use Rattle.refusals.specs.declared.Refusal.the-variants.{InvalidRequest}
 use Rattle.place.specs.declared.Site.{Site}
-use Rattle.place.specs.Place.{refusalNumber, placeOf, tableOf}
+use Rattle.refusals.specs.Refusals.{refusalNumber}
+use Rattle.place.specs.Place.{placeOf, tableOf}
 use Rattle.gpt.specs.Lookup.{plain}
 use Rattle.mend.specs.declared.Mended.{Mended}
 use Rattle.mend.specs.declared.Mended.the-variants.{Ok, Refused}

@@ -4,9 +4,9 @@ ghost use Rattle.mend.specs.Outcome.{Left, mendOf, verdict, checkOf};
 use config::Config;
 use pa::PA;
 use place::Ask;
-use place::Call;
 use place::Place;
-use place::Refusal;
+use refusals::Call;
+use refusals::Refusal;
 
 // What a mend answers: the stores made, or why it is refused.
 pub enum Mended {

@@ -11,11 +11,12 @@ use Rattle.l0.specs.L0.{l0Of}
 use Rattle.config.specs.declared.Config.{Config}
 use Rattle.config.specs.Fields.{configuredOf}
 use Rattle.place.specs.declared.Ask.{Ask}
-use Rattle.place.specs.declared.Call.{Call}
-use Rattle.place.specs.declared.Call.the-variants.{Plain, Set}
+use Rattle.refusals.specs.declared.Call.{Call}
+use Rattle.refusals.specs.declared.Call.the-variants.{Plain, Set}
 use Rattle.place.specs.declared.Place.{Place}
 use Rattle.place.specs.declared.Place.the-variants.{No, Block, Table}
-use Rattle.place.specs.Place.{refusalNumber, arenaBad, outside, siteOf, located, placeOf}
+use Rattle.refusals.specs.Refusals.{refusalNumber, arenaBad, outside}
+use Rattle.place.specs.Place.{siteOf, located, placeOf}
 
 -- PPS, L0GPTSZ, PGS and GPC; every other flag is off
 abbrev fields : ℕ → ℕ → ℕ → Bool → Config

@@ -20,9 +20,10 @@ use Rattle.l0.specs.L0.{l0Of, blockOf}
 use Rattle.config.specs.declared.Widths.{Widths}
 use Rattle.config.specs.Index.{l0Entries, l0Index, l1Words}
 use Rattle.place.specs.declared.Ask.{Ask}
-use Rattle.place.specs.declared.Refusal.the-variants.{FewL0Words, BadArena, ShortLog, InvalidRequest, InvalidL0Entry, OutsideArena}
+use Rattle.refusals.specs.declared.Refusal.the-variants.{FewL0Words, BadArena, ShortLog, InvalidRequest, InvalidL0Entry, OutsideArena}
 use Rattle.place.specs.declared.Place.the-variants.{No, Block, Table}
-use Rattle.place.specs.Place.{arenaBad, logShort, gpiBad, outside, siteOf, entered, located}
+use Rattle.refusals.specs.Refusals.{arenaBad, logShort, gpiBad, outside}
+use Rattle.place.specs.Place.{siteOf, entered, located}
 use Rattle.place.specs.Sited.{Passed}
 
 -- ---- one lemma for each return, the earlier tests not met

@@ -1,7 +1,7 @@
 -- Two addresses lie in one granule exactly if they have the same L0 entry, the same word of its table and the same granule there. Over the
 -- widths, never per granule size.
 -- Assumes nothing.
-use mathlib.Core.Path.{_≡_, refl, sym, ap, ap₂, _∙_}
+use mathlib.Core.Path.{_≡_, sym, ap, ap₂, _∙_}
 use Prim.Native.Nat.{ℕ, _+_, _-_, _*_, _/_, _%_, _<_, _^_}
 use native.Mathlib.Nat.{mod-eq-of-lt, div-add-mod', div-div-eq-div-mul}
 use native.Mathlib.Omega.{arith}

@@ -1,6 +1,4 @@
-pub mod Arena
 pub mod Chain
 pub mod Promises
 pub mod Granules
 pub mod Cases
-pub mod Numbers

@@ -29,14 +29,15 @@ use Rattle.config.specs.Index.{l0Entries, l0Index, l1Words, l1Index, sizeWords}
 use Rattle.config.proofs.Bounds.{listed-widths}
 use Rattle.config.proofs.Geometry.{l0-in, l1-in, granule-in, l1-most, words-2-most, words-least, words-32, words-512, regions, region-in}
 use Rattle.place.specs.declared.Ask.{Ask}
-use Rattle.place.specs.declared.Call.the-variants.{Set}
-use Rattle.place.specs.declared.Refusal.the-variants.{FewL0Words, BadArena, ShortLog, InvalidRequest, OutsideArena}
+use Rattle.refusals.specs.declared.Call.the-variants.{Set}
+use Rattle.refusals.specs.declared.Refusal.the-variants.{FewL0Words, BadArena, ShortLog, InvalidRequest, OutsideArena}
 use Rattle.place.specs.declared.Site.{Site}
 use Rattle.place.specs.declared.Place.{Place}
 use Rattle.place.specs.declared.Place.the-variants.{No, Block, Table}
-use Rattle.place.specs.Place.{arenaBad, logShort, gpiBad, outside, siteOf, elsewhere, tableOf, configured, entered, located, placeOf}
+use Rattle.refusals.specs.Refusals.{arenaBad, logShort, gpiBad, outside}
+use Rattle.place.specs.Place.{siteOf, elsewhere, tableOf, configured, entered, located, placeOf}
 use Rattle.place.specs.Sited.{Sited, Passed, Resolved}
-use Rattle.place.proofs.Arena.{arena-fine, inside, not-outside}
+use Rattle.refusals.proofs.Arena.{arena-fine, inside, not-outside}
 use Rattle.place.proofs.Chain.{none, through, table, table-address}
 
 -- the words of 512 MB, as the theory of tables counts them

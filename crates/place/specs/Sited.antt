@@ -15,7 +15,8 @@ use Rattle.config.specs.Fields.{Listed, configuredOf}
 use Rattle.config.specs.Index.{l0Entries, l0Index}
 use Rattle.place.specs.declared.Ask.{Ask}
 use Rattle.place.specs.declared.Site.{Site}
-use Rattle.place.specs.Place.{arenaBad, logShort, gpiBad, siteOf}
+use Rattle.refusals.specs.Refusals.{arenaBad, logShort, gpiBad}
+use Rattle.place.specs.Place.{siteOf}
 
 -- of a site in an arena of n words
 pub record Sited (n : ℕ) (s : Site) : Type 0 where

@@ -1,10 +1,9 @@
 // Where an address lies: the refusals 1 to 8 in their order, once for every call. From gpt.rs: what `lookup` and `set` begin with.
 ghost use mathlib.Core.Path.{_≡_};
-ghost use mathlib.Core.Bool.{false};
-ghost use Prim.Native.Nat.{_≤_, _<_, _^_};
+ghost use Prim.Native.Nat.{_≤_, _<_};
 ghost use Rattle.config.specs.Fields.{Listed};
-ghost use Rattle.place.specs.Place.{refusalNumber, arenaBad, logShort, gpiBad, outside, siteOf, located, placeOf, seeking};
-ghost use Rattle.place.specs.declared.Call.the-variants.{Plain};
+ghost use Rattle.place.specs.Place.{siteOf, located, placeOf, seeking};
+ghost use Rattle.refusals.specs.declared.Call.the-variants.{Plain};
 use config::Config;
 use config::Configured;
 use config::Widths;
@@ -13,42 +12,8 @@ use gpi::Nibble;
 use gpi::Size;
 use l0::L0Entry;
 use pa::PA;
-
-// Why a call is refused: document 01's 1 to 9. The Rust's `Error` and `GranuleError`, and what is added to them.
-pub enum Refusal {
-    InvalidConfiguration,
-    GptNotInitialized,
-    FewL0Words,
-    BadArena,
-    ShortLog,
-    InvalidRequest,
-    InvalidL0Entry,
-    OutsideArena,
-    InvalidL1Entry,
-}
-
-// The paper's number of a refusal.
-pub fn number(r: Refusal) -> u64
-    ensures { λ n. ⌜ n ≡ refusalNumber r ⌝ }
-{
-    match r {
-        Refusal::InvalidConfiguration => 1,
-        Refusal::GptNotInitialized => 2,
-        Refusal::FewL0Words => 3,
-        Refusal::BadArena => 4,
-        Refusal::ShortLog => 5,
-        Refusal::InvalidRequest => 6,
-        Refusal::InvalidL0Entry => 7,
-        Refusal::OutsideArena => 8,
-        Refusal::InvalidL1Entry => 9,
-    }
-}
-
-// What a call asks besides an address: a set has its log's words and its GPI, as the number was read.
-pub enum Call {
-    Plain,
-    Set(usize, Nibble),
-}
+use refusals::Call;
+use refusals::Refusal;
 
 // What a call is lent, as far as the refusals go: the arena's words are counted and not read. The L0 words stand beside it.
 pub struct Ask {
@@ -77,56 +42,6 @@ pub enum Place {
     No(Refusal),
     Block(Gpi),
     Table(Site),
-}
-
-// The end of the physical addresses, 2^52.
-const TOP: u64 = 0x10_0000_0000_0000;
-
-// Whether the arena is out of order. Its end is never computed before it is known to be in order, so nothing wraps.
-fn arena_bad(base: PA, words: usize) -> bool
-    ensures { λ r. ⌜ r ≡ arenaBad (base .0) words ⌝ }
-{
-    if base.0 % 4096 != 0 {
-        return true;
-    }
-    if TOP < base.0 {
-        return true;
-    }
-    (TOP - base.0) / 8 < words as u64
-}
-
-fn log_short(call: Call) -> bool
-    ensures { λ r. ⌜ r ≡ logShort call ⌝ }
-{
-    match call {
-        Call::Plain => false,
-        Call::Set(n, _) => n < 52,
-    }
-}
-
-fn gpi_bad(c: Config, call: Call) -> bool
-    ensures { λ r. ⌜ r ≡ gpiBad c call ⌝ }
-{
-    match call {
-        Call::Plain => false,
-        Call::Set(_, n) => match n {
-            Nibble::Known(g) => !config::is_gpi_supported(c, g),
-            Nibble::Reserved => true,
-        },
-    }
-}
-
-// Whether a table at a isn't wholly inside an arena that is in order.
-fn is_outside(base: PA, words: usize, a: PA, n: usize) -> bool
-    requires { ⌜ arenaBad (base .0) words ≡ false ⌝ }
-    requires { ⌜ a .0 < 2 ^ 52 ⌝ }
-    requires { ⌜ n ≤ 2 ^ 23 ⌝ }
-    ensures { λ r. ⌜ r ≡ outside (base .0) words (a .0) n ⌝ }
-{
-    if a.0 < base.0 {
-        return true;
-    }
-    base.0 + 8 * (words as u64) < a.0 + 8 * (n as u64)
 }
 
 fn site_at(q: Ask, w: Widths, a: PA) -> Site
@@ -158,23 +73,23 @@ fn locate(l0: &[u64], q: Ask, w: Widths) -> Place
     if (l0.len() as u64) < config::l0_entries(w) {
         return Place::No(Refusal::FewL0Words);
     }
-    if arena_bad(base, q.words) {
+    if refusals::arena_bad(base, q.words) {
         return Place::No(Refusal::BadArena);
     }
-    if log_short(call) {
+    if refusals::log_short(call) {
         return Place::No(Refusal::ShortLog);
     }
     if config::pow2(w.pps) <= address.0 {
         return Place::No(Refusal::InvalidRequest);
     }
-    if gpi_bad(c, call) {
+    if refusals::gpi_bad(c, call) {
         return Place::No(Refusal::InvalidRequest);
     }
     let i = config::l0_resolve(w, address);
     match l0::l0_entry(l0[i]) {
         L0Entry::Block(g) => Place::Block(g),
         L0Entry::Table(a) => {
-            if is_outside(base, q.words, a, config::l1_words(w)) {
+            if refusals::is_outside(base, q.words, a, config::l1_words(w)) {
                 return Place::No(Refusal::OutsideArena);
             }
             Place::Table(site_at(q, w, a))
@@ -206,7 +121,7 @@ fn seek(l0: &[u64], q: Ask, w: Widths) -> Place
     if (l0.len() as u64) < config::l0_entries(w) {
         return Place::No(Refusal::FewL0Words);
     }
-    if arena_bad(base, q.words) {
+    if refusals::arena_bad(base, q.words) {
         return Place::No(Refusal::BadArena);
     }
     if config::pow2(w.pps) <= x.0 {
@@ -216,7 +131,7 @@ fn seek(l0: &[u64], q: Ask, w: Widths) -> Place
     match l0::l0_entry(l0[i]) {
         L0Entry::Block(g) => Place::Block(g),
         L0Entry::Table(a) => {
-            if is_outside(base, q.words, a, config::l1_words(w)) {
+            if refusals::is_outside(base, q.words, a, config::l1_words(w)) {
                 return Place::No(Refusal::OutsideArena);
             }
             Place::Table(site_at(q, w, a))

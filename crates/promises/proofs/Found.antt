@@ -25,7 +25,7 @@ use Rattle.config.specs.declared.Configured.the-variants.{Ok}
 use Rattle.config.specs.Fields.{Listed, configuredOf, supportedOf}
 use Rattle.config.specs.Index.{l0Index, l1Words, l1Index, granuleIndex, sizeWords}
 use Rattle.config.proofs.Geometry.{l0-in}
-use Rattle.place.specs.declared.Call.the-variants.{Plain}
+use Rattle.refusals.specs.declared.Call.the-variants.{Plain}
 use Rattle.place.specs.declared.Site.{Site}
 use Rattle.place.specs.declared.Place.the-variants.{Table}
 use Rattle.place.specs.Place.{placeOf, tableOf, siteOf}

@@ -10,7 +10,8 @@ use Rattle.nibbles.specs.Nibs.{nibs, word}
 use Rattle.l0.specs.L0.{l0Of}
 use Rattle.words.specs.L1.{l1Of}
 use Rattle.config.specs.Fields.{configuredOf}
-use Rattle.place.specs.Place.{arenaBad, outside, siteOf, located, placeOf}
+use Rattle.refusals.specs.Refusals.{arenaBad, outside}
+use Rattle.place.specs.Place.{siteOf, located, placeOf}
 use Rattle.gpt.specs.Lookup.{lookedAt, lookupOf}
 use Rattle.gpt.specs.Set.{siteSet, setAt, setOf}
 use Rattle.promises.specs.Cases.{Starred, ShatteredThenStopped}

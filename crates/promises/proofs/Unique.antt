@@ -32,8 +32,9 @@ use Rattle.config.specs.declared.Widths.{Widths}
 use Rattle.config.specs.Fields.{ppsWidth, pgsWidth, l0gptszWidth, configuredOf, supportedOf}
 use Rattle.place.specs.declared.Ask.{Ask}
 use Rattle.place.specs.declared.Place.{Place}
-use Rattle.place.specs.declared.Refusal.{Refusal}
-use Rattle.place.specs.Place.{refusalNumber, placeOf}
+use Rattle.refusals.specs.declared.Refusal.{Refusal}
+use Rattle.refusals.specs.Refusals.{refusalNumber}
+use Rattle.place.specs.Place.{placeOf}
 use Rattle.gpt.specs.declared.Looked.{Looked}
 use Rattle.gpt.specs.declared.Changed.{Changed}
 use Rattle.gpt.specs.Lookup.{lookupOf}

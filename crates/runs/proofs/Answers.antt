@@ -11,8 +11,8 @@ use Rattle.gpi.specs.declared.Gpi.the-variants.{NoAccess, SystemAgent, NonSecur
 use Rattle.gpi.specs.declared.Nibble.{Nibble}
 use Rattle.gpi.specs.declared.Nibble.the-variants.{Known, Reserved}
 use Rattle.gpi.specs.Gpi.{gpiAt}
-use Rattle.place.specs.declared.Refusal.{Refusal}
-use Rattle.place.specs.declared.Refusal.the-variants.{InvalidConfiguration, GptNotInitialized, FewL0Words, BadArena, ShortLog, InvalidRequest, InvalidL0Entry, OutsideArena, InvalidL1Entry}
+use Rattle.refusals.specs.declared.Refusal.{Refusal}
+use Rattle.refusals.specs.declared.Refusal.the-variants.{InvalidConfiguration, GptNotInitialized, FewL0Words, BadArena, ShortLog, InvalidRequest, InvalidL0Entry, OutsideArena, InvalidL1Entry}
 use Rattle.gpt.specs.declared.Looked.{Looked}
 use Rattle.gpt.specs.declared.Looked.the-variants.{Ok, Refused}
 use Rattle.runs.specs.Runs.{codeOf, alike}

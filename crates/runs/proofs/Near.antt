@@ -16,8 +16,9 @@ use Rattle.config.specs.Index.{l0Index, l1Index, granuleIndex, l1Words}
 use Rattle.config.proofs.Bounds.{listed-widths}
 use Rattle.place.specs.declared.Place.{Place}
 use Rattle.place.specs.declared.Place.the-variants.{No, Block, Table}
-use Rattle.place.specs.declared.Refusal.the-variants.{OutsideArena}
-use Rattle.place.specs.Place.{outside, siteOf, entered, placeOf}
+use Rattle.refusals.specs.declared.Refusal.the-variants.{OutsideArena}
+use Rattle.refusals.specs.Refusals.{outside}
+use Rattle.place.specs.Place.{siteOf, entered, placeOf}
 use Rattle.place.specs.Sited.{Passed}
 use Rattle.place.proofs.Chain.{through}
 use Rattle.gpt.specs.Lookup.{plain, lookedAt, lookupOf}

@@ -12,8 +12,8 @@ use Rattle.config.specs.declared.Widths.{Widths}
 use Rattle.config.specs.declared.Configured.the-variants.{Ok as Taken}
 use Rattle.config.specs.Fields.{configuredOf}
 use Rattle.config.specs.Index.{l0Entries}
-use Rattle.place.specs.declared.Refusal.the-variants.{InvalidL1Entry}
-use Rattle.place.specs.Place.{arenaBad}
+use Rattle.refusals.specs.declared.Refusal.the-variants.{InvalidL1Entry}
+use Rattle.refusals.specs.Refusals.{arenaBad}
 use Rattle.gpt.specs.declared.Looked.{Looked}
 use Rattle.gpt.specs.declared.Looked.the-variants.{Refused}
 use Rattle.gpt.specs.Lookup.{lookedNumber, lookedGpi, granted}

@@ -9,7 +9,7 @@ use gpt::Looked;
 use lines::Run;
 use pa::PA;
 use place::Place;
-use place::Refusal;
+use refusals::Refusal;
 use view::Held;
 
 // The answer at an address, and the last address of a stretch that answers so.
@@ -24,7 +24,7 @@ fn code(a: Looked) -> u64
 {
     match a {
         Looked::Ok(g) => gpi::number(g),
-        Looked::Refused(r) => 16 * place::number(r),
+        Looked::Refused(r) => 16 * refusals::number(r),
     }
 }
 

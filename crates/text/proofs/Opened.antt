@@ -16,8 +16,9 @@ use Rattle.config.specs.Fields.{configuredOf}
 use Rattle.config.specs.Index.{l0Entries}
 use Rattle.place.specs.declared.Place.{Place}
 use Rattle.place.specs.declared.Place.the-variants.{No}
-use Rattle.place.specs.declared.Refusal.the-variants.{FewL0Words, BadArena}
-use Rattle.place.specs.Place.{arenaBad, located, placeOf, configured}
+use Rattle.refusals.specs.declared.Refusal.the-variants.{FewL0Words, BadArena}
+use Rattle.refusals.specs.Refusals.{arenaBad}
+use Rattle.place.specs.Place.{located, placeOf, configured}
 use Rattle.gpt.specs.Lookup.{lookedNumber, lookedAt, lookupOf}
 use Rattle.runs.specs.Runs.{Open}
 use Rattle.text.specs.declared.Opening.the-variants.{Shown, Refused}

@@ -127,7 +127,7 @@ fn number(a: Looked) -> u64
 {
     match a {
         Looked::Ok(_) => 0,
-        Looked::Refused(r) => place::number(r),
+        Looked::Refused(r) => refusals::number(r),
     }
 }
 

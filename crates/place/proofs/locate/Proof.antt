@@ -12,9 +12,9 @@ use Rattle.l0.specs.L0.{l0Of}
 use Rattle.config.specs.Index.{l0Entries, l0Index, l1Words}
 use Rattle.config.proofs.Geometry.{l0-in, l1-most}
 use Rattle.place.specs.declared.Place.the-variants.{Table}
-use Rattle.place.specs.Place.{arenaBad, logShort, outside}
+use Rattle.refusals.specs.Refusals.{arenaBad, logShort, outside}
 use Rattle.place.specs.Sited.{Passed}
-use Rattle.place.proofs.Arena.{inside}
+use Rattle.refusals.proofs.Arena.{inside}
 use Rattle.place.proofs.Chain.{few-words, bad-arena, short-log, bad-address, bad-gpi, block, bad-entry, not-inside, table, table-address}
 use Rattle.place.proofs.locate.Statement.{statement}
 use Rattle.place.proofs.locate.Tie as tie

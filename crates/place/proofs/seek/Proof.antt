@@ -12,12 +12,12 @@ use Rattle.l0.specs.L0.{l0Of}
 use Rattle.config.specs.declared.Config.{Config}
 use Rattle.config.specs.Index.{l0Entries, l0Index, l1Words}
 use Rattle.config.proofs.Geometry.{l0-in, l1-most}
-use Rattle.place.specs.declared.Call.{Call}
-use Rattle.place.specs.declared.Call.the-variants.{Plain}
+use Rattle.refusals.specs.declared.Call.{Call}
+use Rattle.refusals.specs.declared.Call.the-variants.{Plain}
 use Rattle.place.specs.declared.Place.the-variants.{Table}
-use Rattle.place.specs.Place.{arenaBad, logShort, gpiBad, outside}
+use Rattle.refusals.specs.Refusals.{arenaBad, logShort, gpiBad, outside}
 use Rattle.place.specs.Sited.{Passed}
-use Rattle.place.proofs.Arena.{inside}
+use Rattle.refusals.proofs.Arena.{inside}
 use Rattle.place.proofs.Chain.{few-words, bad-arena, bad-address, block, bad-entry, not-inside, table, table-address}
 use Rattle.place.proofs.seek.Statement.{statement}
 use Rattle.place.proofs.seek.Tie as tie

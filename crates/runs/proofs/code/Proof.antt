@@ -3,7 +3,7 @@
 use mathlib.Core.Path.{ap}
 use native.Mathlib.Omega.{arith}
 use Rattle.runs.specs.Runs.{codeOf}
-use Rattle.place.proofs.Numbers.{refusal-number}
+use Rattle.refusals.proofs.Numbers.{refusal-number}
 use borrow.Author.Needs.{needs}
 use Rattle.runs.proofs.code.Statement.{statement}
 use Rattle.runs.proofs.code.Tie as tie

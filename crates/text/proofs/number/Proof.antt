@@ -3,7 +3,7 @@
 use mathlib.Core.Path.{sym, ap, _∙_}
 use native.Mathlib.Omega.{arith}
 use Rattle.gpt.specs.Lookup.{lookedNumber}
-use Rattle.place.proofs.Numbers.{refusal-number}
+use Rattle.refusals.proofs.Numbers.{refusal-number}
 use borrow.Author.Needs.{needs}
 use Rattle.text.proofs.number.Statement.{statement}
 use Rattle.text.proofs.number.Tie as tie

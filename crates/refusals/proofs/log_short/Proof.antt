@@ -1,8 +1,8 @@
 -- `place::log_short` meets its contract.
 -- Assumes nothing.
 use borrow.Author.Needs.{needs}
-use Rattle.place.proofs.log_short.Statement.{statement}
-use Rattle.place.proofs.log_short.Tie as tie
+use Rattle.refusals.proofs.log_short.Statement.{statement}
+use Rattle.refusals.proofs.log_short.Tie as tie
 
 enum-told : tie.Need-enum-told
 enum-told c = search needs

@@ -2,9 +2,9 @@
 -- Assumes nothing.
 use native.Mathlib.Omega.{arith}
 use borrow.Author.Needs.{needs}
-use Rattle.place.proofs.Arena.{arena-fine, below, above}
-use Rattle.place.proofs.is_outside.Statement.{statement}
-use Rattle.place.proofs.is_outside.Tie as tie
+use Rattle.refusals.proofs.Arena.{arena-fine, below, above}
+use Rattle.refusals.proofs.is_outside.Statement.{statement}
+use Rattle.refusals.proofs.is_outside.Tie as tie
 
 returns : tie.Need-returns
 returns c = below _ _ _ _ (c .if1 .taken)

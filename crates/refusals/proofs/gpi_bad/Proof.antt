@@ -1,8 +1,8 @@
 -- `place::gpi_bad` meets its contract.
 -- Assumes nothing.
 use borrow.Author.Needs.{needs}
-use Rattle.place.proofs.gpi_bad.Statement.{statement}
-use Rattle.place.proofs.gpi_bad.Tie as tie
+use Rattle.refusals.proofs.gpi_bad.Statement.{statement}
+use Rattle.refusals.proofs.gpi_bad.Tie as tie
 
 enum-told : tie.Need-enum-told
 enum-told c = search needs

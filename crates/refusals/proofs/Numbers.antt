@@ -2,9 +2,9 @@
 -- Assumes nothing.
 use Prim.Native.Nat.{_<_}
 use lib.Dec.{lit<}
-use Rattle.place.specs.declared.Refusal.{Refusal}
-use Rattle.place.specs.declared.Refusal.the-variants.{InvalidConfiguration, GptNotInitialized, FewL0Words, BadArena, ShortLog, InvalidRequest, InvalidL0Entry, OutsideArena, InvalidL1Entry}
-use Rattle.place.specs.Place.{refusalNumber}
+use Rattle.refusals.specs.declared.Refusal.{Refusal}
+use Rattle.refusals.specs.declared.Refusal.the-variants.{InvalidConfiguration, GptNotInitialized, FewL0Words, BadArena, ShortLog, InvalidRequest, InvalidL0Entry, OutsideArena, InvalidL1Entry}
+use Rattle.refusals.specs.Refusals.{refusalNumber}
 
 -- a refusal's number is neither 0 nor 10
 pub refusal-number : (r : Refusal) → (0 < refusalNumber r) × (refusalNumber r < 10)

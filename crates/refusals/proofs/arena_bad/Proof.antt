@@ -1,8 +1,8 @@
 -- `place::arena_bad` meets its contract.
 -- Assumes nothing.
-use Rattle.place.proofs.Arena.{bad-base, bad-high, bad-long}
-use Rattle.place.proofs.arena_bad.Statement.{statement}
-use Rattle.place.proofs.arena_bad.Tie as tie
+use Rattle.refusals.proofs.Arena.{bad-base, bad-high, bad-long}
+use Rattle.refusals.proofs.arena_bad.Statement.{statement}
+use Rattle.refusals.proofs.arena_bad.Tie as tie
 
 returns : tie.Need-returns
 returns c = bad-base _ _ (c .if1 .taken)
