@@ -58,7 +58,7 @@ fn spot_at(len: usize, width: u64, at: u64) -> Spot
 }
 
 // The work: the word that holds an address.
-pub fn word_at(t: &[u64], width: u64, at: u64) -> Seen
+fn word_at(t: &[u64], width: u64, at: u64) -> Seen
     ensures { λ r. ⌜ r ≡ seenAt (now (t .entry)) width at ⌝ }
 {
     match spot_at(t.len(), width, at) {
@@ -79,7 +79,7 @@ fn held_by(w: u64, k: u64) -> Held
 }
 
 // The GPI of an address.
-pub fn gpi_at(t: &[u64], width: u64, at: u64) -> Held
+fn gpi_at(t: &[u64], width: u64, at: u64) -> Held
     ensures { λ r. ⌜ r ≡ heldAt (now (t .entry)) width at ⌝ }
 {
     match spot_at(t.len(), width, at) {
