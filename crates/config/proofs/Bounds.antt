@@ -1,9 +1,9 @@
 -- What the widths of a configuration that was taken are, whatever its fields say.
 -- Assumes nothing.
-use mathlib.Core.Path.{_≡_, refl, sym, ap, _∙_, subst}
+use mathlib.Core.Path.{_≡_, refl, sym, _∙_, subst}
 use mathlib.Core.Bool.{Bool, true, false, cond, _&&_}
 use mathlib.Core.List.{List, [], _∷_}
-use Prim.Native.Nat.{ℕ, zero, suc, _≤_, _<_}
+use Prim.Native.Nat.{ℕ, _≤_, _<_}
 use native.Mathlib.Decide.{decLt}
 use native.Mathlib.Omega.{arith}
 use borrow.Author.Tests.{ltb-false, leb-true}
@@ -14,7 +14,6 @@ use Rattle.config.specs.declared.Config.{Config}
 use Rattle.config.specs.declared.Width.{Width}
 use Rattle.config.specs.declared.Width.the-variants.{Bits, Unlisted}
 use Rattle.config.specs.declared.Widths.{Widths}
-use Rattle.config.specs.declared.Configured.{Configured}
 use Rattle.config.specs.declared.Configured.the-variants.{Ok, InvalidConfiguration, GptNotInitialized}
 use Rattle.config.specs.Fields.{ppsWidth, pgsWidth, l0gptszWidth, listed, configuredOf, Listed}
 

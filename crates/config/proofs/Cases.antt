@@ -2,14 +2,11 @@
 -- Assumes nothing.
 use mathlib.Core.Path.{_≡_, refl}
 use mathlib.Core.Bool.{Bool, true, false}
-use Prim.Native.Nat.{ℕ, _^_}
+use Prim.Native.Nat.{ℕ}
 use Rattle.gpi.specs.declared.Gpi.the-variants.{NonSecureOnly, NoAccess7, Secure}
-use Rattle.gpi.specs.declared.Size.the-variants.{MB2, MB512}
 use Rattle.config.specs.declared.Config.{Config}
-use Rattle.config.specs.declared.Widths.{Widths}
 use Rattle.config.specs.declared.Configured.the-variants.{Ok}
 use Rattle.config.specs.Fields.{configuredOf, number, supportedOf}
-use Rattle.config.specs.Index.{l0Entries, l0Index, l1Words, l1Index, granuleIndex, granuleBytes, sizeWords}
 
 abbrev with : ℕ → ℕ → ℕ → Bool → Config
 with pps pgs l0 gpc =
@@ -44,17 +41,3 @@ unlisted-l0gptsz = refl
 -- 7 needs GDI besides its flag; 13 needs GPC2
 supports : (supportedOf (with 0 1 0 true) NoAccess7 ≡ false) × (supportedOf (with 0 1 0 true) NonSecureOnly ≡ true) × (supportedOf (with 0 1 0 true) Secure ≡ true)
 supports = (refl, refl, refl)
-
--- arrangement B's numbers: four entries, tables of 1,024 words, two words to 2 MB
-abbrev b : Widths
-b = record { pps = 32; pgs = 16; l0gptsz = 30 }
-
-counts : (l0Entries b ≡ 4) × (l1Words b ≡ 1024) × (sizeWords b MB2 ≡ 2) × (sizeWords b MB512 ≡ 512) × (granuleBytes b ≡ 0x1_0000)
-counts = (refl, refl, refl, refl, refl)
-
-places : (l0Index b 0x4123_4567 ≡ 1) × (l1Index b 0x4123_4567 ≡ 18) × (granuleIndex b 0x4123_4567 ≡ 3)
-places = (refl, refl, refl)
-
--- the largest table
-largest : l1Words (record { pps = 52; pgs = 12; l0gptsz = 39 }) ≡ 2 ^ 23
-largest = refl

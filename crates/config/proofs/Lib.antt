@@ -1,3 +1,2 @@
 pub mod Bounds
-pub mod Geometry
 pub mod Cases

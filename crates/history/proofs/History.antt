@@ -25,8 +25,8 @@ use Rattle.words.specs.Arm.{arm}
 use Rattle.words.proofs.Arm.{arm-laws}
 use Rattle.config.specs.declared.Configured.the-variants.{Ok as Configured}
 use Rattle.config.specs.Fields.{configuredOf}
-use Rattle.config.specs.Index.{l0Index, l1Words, granuleBytes}
-use Rattle.config.proofs.Geometry.{words-least}
+use Rattle.index.specs.Index.{l0Index, l1Words, granuleBytes}
+use Rattle.index.proofs.Geometry.{words-least}
 use Rattle.place.specs.declared.Place.{Place}
 use Rattle.place.specs.declared.Place.the-variants.{No, Block, Table}
 use Rattle.refusals.specs.declared.Refusal.{Refusal}

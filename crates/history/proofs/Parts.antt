@@ -31,7 +31,7 @@ use Rattle.nibbles.proofs.Packed.{nib-repeated}
 use Rattle.config.specs.declared.Widths.{Widths}
 use Rattle.config.specs.declared.Configured.the-variants.{Ok as Configured}
 use Rattle.config.specs.Fields.{Listed, configuredOf, supportedOf}
-use Rattle.config.specs.Index.{l0Index, l1Words, l1Index, granuleIndex, granuleBytes, sizeWords}
+use Rattle.index.specs.Index.{l0Index, l1Words, l1Index, granuleIndex, granuleBytes, sizeWords}
 use Rattle.config.proofs.Bounds.{listed-widths}
 use Rattle.place.specs.declared.Ask.{Ask}
 use Rattle.refusals.specs.declared.Call.the-variants.{Plain}

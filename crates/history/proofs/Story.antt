@@ -20,8 +20,8 @@ use Rattle.words.specs.Arm.{arm}
 use Rattle.words.proofs.Arm.{arm-laws}
 use Rattle.config.specs.declared.Configured.the-variants.{Ok as Configured}
 use Rattle.config.specs.Fields.{configuredOf}
-use Rattle.config.specs.Index.{l0Index}
-use Rattle.config.proofs.Geometry.{l0-in}
+use Rattle.index.specs.Index.{l0Index}
+use Rattle.index.proofs.Geometry.{l0-in}
 use Rattle.place.specs.declared.Place.the-variants.{Table}
 use Rattle.place.specs.declared.Site.{Site}
 use Rattle.place.specs.Place.{tableOf}

@@ -15,7 +15,7 @@ use Rattle.tables.specs.Whole.{Whole}
 use Rattle.words.specs.Arm.{arm}
 use Rattle.config.specs.declared.Config.{Config}
 use Rattle.config.specs.declared.Widths.{Widths}
-use Rattle.config.specs.Index.{l0Index, l1Words, granuleBytes}
+use Rattle.index.specs.Index.{l0Index, l1Words, granuleBytes}
 use Rattle.place.specs.declared.Place.{Place}
 use Rattle.place.specs.declared.Place.the-variants.{Table}
 use Rattle.place.specs.declared.Site.{Site}

@@ -18,7 +18,7 @@ use Rattle.pa.specs.Pa.{pa}
 use Rattle.l0.specs.declared.L0Entry.the-variants.{Block as BlockWord, Table as TableWord, Invalid}
 use Rattle.l0.specs.L0.{l0Of, blockOf}
 use Rattle.config.specs.declared.Widths.{Widths}
-use Rattle.config.specs.Index.{l0Entries, l0Index, l1Words}
+use Rattle.index.specs.Index.{l0Entries, l0Index, l1Words}
 use Rattle.place.specs.declared.Ask.{Ask}
 use Rattle.refusals.specs.declared.Refusal.the-variants.{FewL0Words, BadArena, ShortLog, InvalidRequest, InvalidL0Entry, OutsideArena}
 use Rattle.place.specs.declared.Place.the-variants.{No, Block, Table}

@@ -8,7 +8,7 @@ use native.Mathlib.Omega.{arith}
 use lib.Pow.{pow-add, field}
 use Rattle.config.specs.declared.Widths.{Widths}
 use Rattle.config.specs.Fields.{Listed}
-use Rattle.config.specs.Index.{l0Index, l1Words, l1Index, granuleIndex, granuleBytes}
+use Rattle.index.specs.Index.{l0Index, l1Words, l1Index, granuleIndex, granuleBytes}
 
 module _ (w : Widths) (h : Listed w) where
   -- a word is sixteen granules

@@ -25,9 +25,9 @@ use Rattle.config.specs.declared.Widths.{Widths}
 use Rattle.config.specs.declared.Configured.{Configured}
 use Rattle.config.specs.declared.Configured.the-variants.{Ok, InvalidConfiguration as Unlisted, GptNotInitialized as Off}
 use Rattle.config.specs.Fields.{Listed, configuredOf, supportedOf}
-use Rattle.config.specs.Index.{l0Entries, l0Index, l1Words, l1Index, sizeWords}
+use Rattle.index.specs.Index.{l0Entries, l0Index, l1Words, l1Index, sizeWords}
 use Rattle.config.proofs.Bounds.{listed-widths}
-use Rattle.config.proofs.Geometry.{l0-in, l1-in, granule-in, l1-most, words-2-most, words-least, words-32, words-512, regions, region-in}
+use Rattle.index.proofs.Geometry.{l0-in, l1-in, granule-in, l1-most, words-2-most, words-least, words-32, words-512, regions, region-in}
 use Rattle.place.specs.declared.Ask.{Ask}
 use Rattle.refusals.specs.declared.Call.the-variants.{Set}
 use Rattle.refusals.specs.declared.Refusal.the-variants.{FewL0Words, BadArena, ShortLog, InvalidRequest, OutsideArena}

@@ -15,7 +15,7 @@ use Rattle.config.specs.declared.Widths.{Widths}
 use Rattle.config.specs.declared.Configured.{Configured}
 use Rattle.config.specs.declared.Configured.the-variants.{Ok, InvalidConfiguration as Unlisted, GptNotInitialized as Off}
 use Rattle.config.specs.Fields.{configuredOf}
-use Rattle.config.specs.Index.{l0Entries, l0Index, l1Words, l1Index, granuleIndex, granuleBytes, sizeWords}
+use Rattle.index.specs.Index.{l0Entries, l0Index, l1Words, l1Index, granuleIndex, granuleBytes, sizeWords}
 use Rattle.refusals.specs.Refusals.{arenaBad, logShort, gpiBad, outside}
 use Rattle.refusals.specs.declared.Refusal.the-variants.{InvalidConfiguration, GptNotInitialized, FewL0Words, BadArena, ShortLog, InvalidRequest, InvalidL0Entry, OutsideArena}
 use Rattle.refusals.specs.declared.Call.the-variants.{Plain}

@@ -12,7 +12,7 @@ use Rattle.l0.specs.L0.{l0Of}
 use Rattle.config.specs.declared.Widths.{Widths}
 use Rattle.config.specs.declared.Configured.the-variants.{Ok}
 use Rattle.config.specs.Fields.{Listed, configuredOf}
-use Rattle.config.specs.Index.{l0Entries, l0Index}
+use Rattle.index.specs.Index.{l0Entries, l0Index}
 use Rattle.place.specs.declared.Ask.{Ask}
 use Rattle.place.specs.declared.Site.{Site}
 use Rattle.refusals.specs.Refusals.{arenaBad, logShort, gpiBad}

@@ -53,11 +53,11 @@ fn site_at(q: Ask, w: Widths, a: PA) -> Site
     let address = q.address;
     Site {
         start: ((a.0 - base.0) / 8) as usize,
-        words: config::l1_words(w),
-        index: config::l1_resolve(w, address),
-        granule: config::granule_resolve(w, address),
-        unit: config::size_words(w, Size::MB2),
-        grain: config::granule_bytes(w),
+        words: index::l1_words(w),
+        index: index::l1_resolve(w, address),
+        granule: index::granule_resolve(w, address),
+        unit: index::size_words(w, Size::MB2),
+        grain: index::granule_bytes(w),
     }
 }
 
@@ -70,7 +70,7 @@ fn locate(l0: &[u64], q: Ask, w: Widths) -> Place
     let base = q.base;
     let address = q.address;
     let call = q.call;
-    if (l0.len() as u64) < config::l0_entries(w) {
+    if (l0.len() as u64) < index::l0_entries(w) {
         return Place::No(Refusal::FewL0Words);
     }
     if refusals::arena_bad(base, q.words) {
@@ -79,17 +79,17 @@ fn locate(l0: &[u64], q: Ask, w: Widths) -> Place
     if refusals::log_short(call) {
         return Place::No(Refusal::ShortLog);
     }
-    if config::pow2(w.pps) <= address.0 {
+    if index::pow2(w.pps) <= address.0 {
         return Place::No(Refusal::InvalidRequest);
     }
     if refusals::gpi_bad(c, call) {
         return Place::No(Refusal::InvalidRequest);
     }
-    let i = config::l0_resolve(w, address);
+    let i = index::l0_resolve(w, address);
     match l0::l0_entry(l0[i]) {
         L0Entry::Block(g) => Place::Block(g),
         L0Entry::Table(a) => {
-            if refusals::is_outside(base, q.words, a, config::l1_words(w)) {
+            if refusals::is_outside(base, q.words, a, index::l1_words(w)) {
                 return Place::No(Refusal::OutsideArena);
             }
             Place::Table(site_at(q, w, a))
@@ -118,20 +118,20 @@ fn seek(l0: &[u64], q: Ask, w: Widths) -> Place
 {
     let base = q.base;
     let x = q.address;
-    if (l0.len() as u64) < config::l0_entries(w) {
+    if (l0.len() as u64) < index::l0_entries(w) {
         return Place::No(Refusal::FewL0Words);
     }
     if refusals::arena_bad(base, q.words) {
         return Place::No(Refusal::BadArena);
     }
-    if config::pow2(w.pps) <= x.0 {
+    if index::pow2(w.pps) <= x.0 {
         return Place::No(Refusal::InvalidRequest);
     }
-    let i = config::l0_resolve(w, x);
+    let i = index::l0_resolve(w, x);
     match l0::l0_entry(l0[i]) {
         L0Entry::Block(g) => Place::Block(g),
         L0Entry::Table(a) => {
-            if refusals::is_outside(base, q.words, a, config::l1_words(w)) {
+            if refusals::is_outside(base, q.words, a, index::l1_words(w)) {
                 return Place::No(Refusal::OutsideArena);
             }
             Place::Table(site_at(q, w, a))

@@ -36,8 +36,8 @@ use Rattle.words.proofs.Arm.{arm-laws}
 use Rattle.config.specs.declared.Config.{Config}
 use Rattle.config.specs.declared.Widths.{Widths}
 use Rattle.config.specs.Fields.{Listed, supportedOf}
-use Rattle.config.specs.Index.{l1Words, l1Index, granuleIndex, granuleBytes}
-use Rattle.config.proofs.Geometry.{granule-in}
+use Rattle.index.specs.Index.{l1Words, l1Index, granuleIndex, granuleBytes}
+use Rattle.index.proofs.Geometry.{granule-in}
 use Rattle.place.specs.declared.Site.{Site}
 use Rattle.place.specs.Place.{tableOf}
 use Rattle.place.specs.Sited.{Resolved}

@@ -13,9 +13,9 @@ use Rattle.gpi.proofs.Rules.{num-at}
 use Rattle.tables.specs.Normal.{at}
 use Rattle.config.specs.declared.Config.{Config}
 use Rattle.config.specs.declared.Widths.{Widths}
-use Rattle.config.specs.Index.{l0Index, l1Words, l1Index}
+use Rattle.index.specs.Index.{l0Index, l1Words, l1Index}
 use Rattle.config.proofs.Bounds.{listed-widths}
-use Rattle.config.proofs.Geometry.{l1-in}
+use Rattle.index.proofs.Geometry.{l1-in}
 use Rattle.place.specs.declared.Site.{Site}
 use Rattle.place.specs.declared.Place.the-variants.{Table}
 use Rattle.place.specs.Place.{placeOf, siteOf}

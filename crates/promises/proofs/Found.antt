@@ -23,8 +23,8 @@ use Rattle.config.specs.declared.Config.{Config}
 use Rattle.config.specs.declared.Widths.{Widths}
 use Rattle.config.specs.declared.Configured.the-variants.{Ok}
 use Rattle.config.specs.Fields.{Listed, configuredOf, supportedOf}
-use Rattle.config.specs.Index.{l0Index, l1Words, l1Index, granuleIndex, sizeWords}
-use Rattle.config.proofs.Geometry.{l0-in}
+use Rattle.index.specs.Index.{l0Index, l1Words, l1Index, granuleIndex, sizeWords}
+use Rattle.index.proofs.Geometry.{l0-in}
 use Rattle.refusals.specs.declared.Call.the-variants.{Plain}
 use Rattle.place.specs.declared.Site.{Site}
 use Rattle.place.specs.declared.Place.the-variants.{Table}

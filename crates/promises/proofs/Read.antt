@@ -30,8 +30,8 @@ use Rattle.words.proofs.Alike.{reads-flat}
 use Rattle.words.proofs.Arm.{level-num}
 use Rattle.config.specs.declared.Widths.{Widths}
 use Rattle.config.specs.Fields.{Listed}
-use Rattle.config.specs.Index.{sizeWords}
-use Rattle.config.proofs.Geometry.{words-32, words-512}
+use Rattle.index.specs.Index.{sizeWords}
+use Rattle.index.proofs.Geometry.{words-32, words-512}
 use Rattle.promises.specs.Demand3.{EntryAgrees}
 
 -- a reading of the theory as a nibble of the lookup

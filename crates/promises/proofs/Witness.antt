@@ -25,7 +25,7 @@ use Rattle.words.specs.L1.{l1Of, readAt}
 use Rattle.config.specs.declared.Widths.{Widths}
 use Rattle.config.specs.declared.Configured.the-variants.{Ok}
 use Rattle.config.specs.Fields.{configuredOf}
-use Rattle.config.specs.Index.{sizeWords}
+use Rattle.index.specs.Index.{sizeWords}
 use Rattle.gpt.specs.Set.{changedNumber}
 use Rattle.promises.specs.Cases.{fields, l0, arena, change}
 use Rattle.promises.specs.Demand3.{answers-0, answers-10, tableFrom, EntryAgrees, Tables}

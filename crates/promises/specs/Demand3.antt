@@ -26,7 +26,7 @@ use Rattle.config.specs.declared.Config.{Config}
 use Rattle.config.specs.declared.Widths.{Widths}
 use Rattle.config.specs.declared.Configured.the-variants.{Ok}
 use Rattle.config.specs.Fields.{configuredOf}
-use Rattle.config.specs.Index.{l0Entries, l0Index, l1Words, l1Index, granuleBytes, sizeWords}
+use Rattle.index.specs.Index.{l0Entries, l0Index, l1Words, l1Index, granuleBytes, sizeWords}
 use Rattle.place.specs.declared.Site.{Site}
 use Rattle.place.specs.declared.Place.the-variants.{Table}
 use Rattle.place.specs.Place.{placeOf, tableOf}

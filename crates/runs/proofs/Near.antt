@@ -12,7 +12,7 @@ use Rattle.l0.specs.L0.{l0Of}
 use Rattle.config.specs.declared.Config.{Config}
 use Rattle.config.specs.declared.Widths.{Widths}
 use Rattle.config.specs.Fields.{Listed}
-use Rattle.config.specs.Index.{l0Index, l1Index, granuleIndex, l1Words}
+use Rattle.index.specs.Index.{l0Index, l1Index, granuleIndex, l1Words}
 use Rattle.config.proofs.Bounds.{listed-widths}
 use Rattle.place.specs.declared.Place.{Place}
 use Rattle.place.specs.declared.Place.the-variants.{No, Block, Table}

@@ -11,7 +11,7 @@ use Rattle.config.specs.declared.Config.{Config}
 use Rattle.config.specs.declared.Widths.{Widths}
 use Rattle.config.specs.declared.Configured.the-variants.{Ok as Taken}
 use Rattle.config.specs.Fields.{configuredOf}
-use Rattle.config.specs.Index.{l1Words, l1Index, granuleIndex}
+use Rattle.index.specs.Index.{l1Words, l1Index, granuleIndex}
 use Rattle.place.specs.declared.Ask.{Ask}
 use Rattle.place.specs.declared.Place.the-variants.{Table}
 use Rattle.place.specs.declared.Site.{Site}

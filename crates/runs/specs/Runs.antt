@@ -11,7 +11,7 @@ use Rattle.config.specs.declared.Config.{Config}
 use Rattle.config.specs.declared.Widths.{Widths}
 use Rattle.config.specs.declared.Configured.the-variants.{Ok as Taken}
 use Rattle.config.specs.Fields.{configuredOf}
-use Rattle.config.specs.Index.{l0Entries}
+use Rattle.index.specs.Index.{l0Entries}
 use Rattle.refusals.specs.declared.Refusal.the-variants.{InvalidL1Entry}
 use Rattle.refusals.specs.Refusals.{arenaBad}
 use Rattle.gpt.specs.declared.Looked.{Looked}

@@ -44,7 +44,7 @@ fn distance(a: u64, k: u64) -> u64
     requires { ⌜ k < 64 ⌝ }
     ensures { λ r. ⌜ r ≡ a % 2 ^ k ⌝ }
 {
-    a % config::pow2(k)
+    a % index::pow2(k)
 }
 
 // The last address of the aligned 2^k that holds a.
@@ -52,7 +52,7 @@ fn last_of(a: u64, k: u64) -> u64
     requires { ⌜ (a < 2 ^ 52) × (k ≤ 52) ⌝ }
     ensures { λ r. ⌜ r ≡ a / 2 ^ k * 2 ^ k + (2 ^ k - 1) ⌝ }
 {
-    let n = config::pow2(k);
+    let n = index::pow2(k);
     a / n * n + (n - 1)
 }
 
@@ -90,7 +90,7 @@ pub fn next_run(c: Config, l0: &[u64], arena: &[u64], base: PA, w: Widths, a: u6
     requires { ⌜ a < total w ⌝ }
     ensures { λ r. ⌜ First (lookupOf c (now (l0 .entry)) (now (arena .entry)) (base .0)) (total w) a r ⌝ }
 {
-    let end = config::pow2(w.pps);
+    let end = index::pow2(w.pps);
     let p = piece_at(c, l0, arena, base, w, a);
     let answer = p.answer;
     let same = code(answer);

@@ -13,7 +13,7 @@ use Rattle.config.specs.declared.Widths.{Widths}
 use Rattle.config.specs.declared.Configured.{Configured}
 use Rattle.config.specs.declared.Configured.the-variants.{Ok, InvalidConfiguration, GptNotInitialized}
 use Rattle.config.specs.Fields.{configuredOf}
-use Rattle.config.specs.Index.{l0Entries}
+use Rattle.index.specs.Index.{l0Entries}
 use Rattle.place.specs.declared.Place.{Place}
 use Rattle.place.specs.declared.Place.the-variants.{No}
 use Rattle.refusals.specs.declared.Refusal.the-variants.{FewL0Words, BadArena}

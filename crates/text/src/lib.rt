@@ -71,7 +71,7 @@ fn runs_chunk(
     requires { ⌜ (0 < at) × (filled ≤ length (now out)) ⌝ }
     ensures { λ r. ⌜ Chunked (openSteps (lookupOf c (now (l0 .entry)) (now (arena .entry)) (base .0)) w) at filled (now (out .entry)) (now (out .exit)) r ⌝ }
 {
-    let end = config::pow2(w.pps);
+    let end = index::pow2(w.pps);
     let mut k = filled;
     let mut next = at;
     while next <= end {

@@ -17,8 +17,8 @@ use Rattle.config.specs.declared.Width.the-variants.{Bits, Unlisted}
 use Rattle.config.specs.declared.Widths.{Widths}
 use Rattle.config.specs.declared.Configured.the-variants.{Ok, InvalidConfiguration, GptNotInitialized}
 use Rattle.config.specs.Fields.{ppsWidth, pgsWidth, l0gptszWidth, listed, configuredOf, Listed}
-use Rattle.config.specs.Index.{l1Words, l1Index, granuleIndex}
-use Rattle.config.proofs.Geometry.{l1-in}
+use Rattle.index.specs.Index.{l1Words, l1Index, granuleIndex}
+use Rattle.index.proofs.Geometry.{l1-in}
 use Rattle.view.specs.declared.Spot.the-variants.{At, Outside}
 use Rattle.view.specs.Reads.{isWidth, spotOf, heldBy, held, heldAt}
 

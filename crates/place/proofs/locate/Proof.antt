@@ -9,8 +9,8 @@ use borrow.Author.Needs.{needs}
 use lib.ListN.{length, getD}
 use Rattle.l0.specs.declared.L0Entry.the-variants.{Table as TableWord}
 use Rattle.l0.specs.L0.{l0Of}
-use Rattle.config.specs.Index.{l0Entries, l0Index, l1Words}
-use Rattle.config.proofs.Geometry.{l0-in, l1-most}
+use Rattle.index.specs.Index.{l0Entries, l0Index, l1Words}
+use Rattle.index.proofs.Geometry.{l0-in, l1-most}
 use Rattle.place.specs.declared.Place.the-variants.{Table}
 use Rattle.refusals.specs.Refusals.{arenaBad, logShort, outside}
 use Rattle.place.specs.Sited.{Passed}

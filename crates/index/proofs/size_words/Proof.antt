@@ -3,8 +3,8 @@
 use mathlib.Core.Path.{ap}
 use Prim.Native.Nat.{ℕ, _+_, _/_, _^_}
 use borrow.Author.Needs.{needs}
-use Rattle.config.proofs.size_words.Statement.{statement}
-use Rattle.config.proofs.size_words.Tie as tie
+use Rattle.index.proofs.size_words.Statement.{statement}
+use Rattle.index.proofs.size_words.Tie as tie
 
 size-bytes-requires : tie.Need-size-bytes-requires
 size-bytes-requires c κs = search needs

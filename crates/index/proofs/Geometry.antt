@@ -11,9 +11,9 @@ use lib.Pow.{pow-pos, pow-mono, pow-add, shl-exact, shl-shr, shr-lt}
 use Rattle.gpi.specs.declared.Size.{Size}
 use Rattle.gpi.specs.declared.Size.the-variants.{MB2, MB32, MB512}
 use Rattle.gpi.specs.Size.{sizeNum, bytesOf}
 use Rattle.config.specs.declared.Widths.{Widths}
 use Rattle.config.specs.Fields.{Listed}
-use Rattle.config.specs.Index.{l0Entries, l0Index, l1Words, l1Index, granuleIndex, sizeWords}
+use Rattle.index.specs.Index.{l0Entries, l0Index, l1Words, l1Index, granuleIndex, sizeWords}
 
 -- ---- as the code computes it
 

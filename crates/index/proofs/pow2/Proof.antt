@@ -1,9 +1,9 @@
 -- `config::pow2` meets its contract.
 -- Assumes nothing.
 use borrow.Author.Needs.{needs}
-use Rattle.config.proofs.Geometry.{shift-one}
-use Rattle.config.proofs.pow2.Statement.{statement}
-use Rattle.config.proofs.pow2.Tie as tie
+use Rattle.index.proofs.Geometry.{shift-one}
+use Rattle.index.proofs.pow2.Statement.{statement}
+use Rattle.index.proofs.pow2.Tie as tie
 
 shl-result : tie.Need-shl-result
 shl-result c = search needs
