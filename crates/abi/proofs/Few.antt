@@ -34,7 +34,7 @@ use Rattle.gpt.specs.declared.Changed.the-variants.{Refused}
 use Rattle.gpt.specs.Lookup.{plain}
 use Rattle.gpt.specs.Set.{changedBy, siteSet, asking, setAt, setOf}
 use Rattle.mend.specs.Outcome.{mendedAt, mendOf}
-use Rattle.abi.specs.Packed.{Small, Few}
+use Rattle.packed.specs.Packed.{Small, Few}
 
 -- ---- how many stores
 

@@ -1,39 +1,22 @@
 -- The bytes of the dump's lines: document 01, "Dump image and text".
 -- Assumes nothing: these are definitions.
-use mathlib.Core.Path.{_≡_}
-use mathlib.Core.Bool.{cond}
 use mathlib.Core.List.{List, [], _∷_, _++_}
-use Prim.Native.Nat.{ℕ, zero, suc, _+_, _/_, _%_, _^_}
+use Prim.Native.Nat.{ℕ, _+_}
 use Prim.Native.Char.{code}
 use Prim.Native.String.{String, [] as end, _∷_ as _then_}
-use lib.Dec.{ltb}
-use lib.ListN.{length}
-use lib.Seq.{sets}
 use Rattle.gpi.specs.declared.Gpi.{Gpi}
 use Rattle.gpi.specs.declared.Gpi.the-variants.{NoAccess, SystemAgent, NonSecureProtected, NoAccess6, NoAccess7, Secure, NonSecure, Root, Realm, NonSecureOnly, Any}
 use Rattle.config.specs.declared.Widths.{Widths}
 use Rattle.refusals.specs.Refusals.{refusalNumber}
 use Rattle.gpt.specs.declared.Looked.{Looked}
 use Rattle.gpt.specs.declared.Looked.the-variants.{Ok, Refused}
+use Rattle.digits.specs.Digits.{hex, dec}
 use Rattle.lines.specs.declared.Run.{Run}
 
 -- a text's bytes
 abbrev pub ascii : String → List ℕ
 ascii end = []
 ascii (c then s) = code c ∷ ascii s
-
--- a lower-case hexadecimal digit: 0 to 9 from byte 48 on, a to f from byte 97 on
-unfoldable pub digitOf : ℕ → ℕ
-digitOf d = cond (ltb d 10) (48 + d) (87 + d)
-
--- the n lowest hexadecimal digits of x, the highest first
-unfoldable pub hex : ℕ → ℕ → List ℕ
-hex zero x = []
-hex (suc n) x = digitOf (x / 16 ^ n % 16) ∷ hex n x
-
--- a number below 100 in decimal: widths and refusals are; of a larger one the last two digits
-unfoldable pub dec : ℕ → List ℕ
-dec x = cond (ltb x 10) ((48 + x) ∷ []) ((48 + x / 10 % 10) ∷ (48 + x % 10) ∷ [])
 
 -- "0 NoAccess, 4 SystemAgent, .."
 abbrev pub gpiName : Gpi → List ℕ
@@ -76,8 +59,3 @@ told what n = (what ++ dec n) ++ feed
 -- all names, one after the other: where the code keeps them
 abbrev pub names : List ℕ
 names = ascii "NoAccessSystemAgentNonSecureProtectedNoAccess6NoAccess7SecureNonSecureRootRealmNonSecureOnlyAny"
-
--- the bytes b are put into the buffer o at a place: o′ is the buffer after it, and r the place behind them
-pub record Put (o : List ℕ) (at : ℕ) (b o′ : List ℕ) (r : ℕ) : Type 0 where
-  pub bytes : o′ ≡ sets o at b
-  pub place : r ≡ at + length b

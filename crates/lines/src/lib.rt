@@ -1,9 +1,9 @@
 // The dump's lines as bytes, each put into a lent buffer from a place on. Added by the port.
 ghost use mathlib.Core.Path.{_≡_};
-ghost use mathlib.Core.List.{_++_};
 ghost use Prim.Native.Nat.{_+_, _≤_, _<_, _^_};
 ghost use lib.ListN.{length, take, drop};
-ghost use Rattle.lines.specs.Lines.{digitOf, hex, dec, gpiName, names, name, line, header, told, Put};
+ghost use Rattle.digits.specs.Digits.{Put};
+ghost use Rattle.lines.specs.Lines.{gpiName, names, name, line, header, told};
 use config::Widths;
 use gpi::Gpi;
 use gpt::Looked;
@@ -14,58 +14,6 @@ pub struct Run {
     pub start: u64,
     pub last: u64,
     pub answer: Looked,
-}
-
-fn digit(d: u64) -> u8
-    requires { ⌜ d < 16 ⌝ }
-    ensures { λ r. ⌜ r ≡ digitOf d ⌝ }
-{
-    if d < 10 { 48 + d as u8 } else { 87 + d as u8 }
-}
-
-fn put(out: &mut [u8], at: usize, src: &[u8]) -> usize
-    requires { ⌜ at + length (now src) ≤ length (now out) ⌝ }
-    ensures { λ r. ⌜ Put (now (out .entry)) at (now (src .entry)) (now (out .exit)) r ⌝ }
-{
-    let mut k: usize = 0;
-    while k < src.len() {
-        out[at + k] = src[k];
-        k += 1;
-    }
-    at + k
-}
-
-fn put_hex(out: &mut [u8], at: usize, n: usize, x: u64) -> usize
-    requires { ⌜ (at + n ≤ length (now out)) × (n ≤ 16) ⌝ }
-    ensures { λ r. ⌜ Put (now (out .entry)) at (hex n x) (now (out .exit)) r ⌝ }
-{
-    let mut left = n;
-    let mut i = at;
-    while 0 < left {
-        left -= 1;
-        out[i] = digit((x >> (4 * left as u64)) % 16);
-        i += 1;
-    }
-    i
-}
-
-fn dec_len(x: u64) -> usize
-    ensures { λ r. ⌜ (r ≡ length (dec x)) × (r ≤ 2) ⌝ }
-{
-    if x < 10 { 1 } else { 2 }
-}
-
-fn put_dec(out: &mut [u8], at: usize, x: u64) -> usize
-    requires { ⌜ at + length (dec x) ≤ length (now out) ⌝ }
-    ensures { λ r. ⌜ Put (now (out .entry)) at (dec x) (now (out .exit)) r ⌝ }
-{
-    if x < 10 {
-        out[at] = 48 + x as u8;
-        return at + 1;
-    }
-    out[at] = 48 + ((x / 10) % 10) as u8;
-    out[at + 1] = 48 + (x % 10) as u8;
-    at + 2
 }
 
 // Where a GPI's name stands in the list of all names.
@@ -107,7 +55,7 @@ fn put_gpi(out: &mut [u8], at: usize, g: Gpi) -> usize
     let e = a + p.len;
     let b: &[u8] =
         b"NoAccessSystemAgentNonSecureProtectedNoAccess6NoAccess7SecureNonSecureRootRealmNonSecureOnlyAny";
-    put(out, at, &b[a..e])
+    digits::put(out, at, &b[a..e])
 }
 
 fn name_len(a: Looked) -> usize
@@ -115,17 +63,8 @@ fn name_len(a: Looked) -> usize
 {
     match a {
         Looked::Ok(g) => gpi_len(g),
-        Looked::Refused(r) => 8 + dec_len(refusals::number(r)),
+        Looked::Refused(r) => 8 + digits::dec_len(refusals::number(r)),
     }
-}
-
-// What is said, and a number.
-fn put_numbered(out: &mut [u8], at: usize, what: &[u8], n: u64) -> usize
-    requires { ⌜ at + length (now what) + length (dec n) ≤ length (now out) ⌝ }
-    ensures { λ r. ⌜ Put (now (out .entry)) at (now (what .entry) ++ dec n) (now (out .exit)) r ⌝ }
-{
-    let b = put(out, at, what);
-    put_dec(out, b, n)
 }
 
 fn put_name(out: &mut [u8], at: usize, a: Looked) -> usize
@@ -134,7 +73,7 @@ fn put_name(out: &mut [u8], at: usize, a: Looked) -> usize
 {
     match a {
         Looked::Ok(g) => put_gpi(out, at, g),
-        Looked::Refused(r) => put_numbered(out, at, b"refused ", refusals::number(r)),
+        Looked::Refused(r) => digits::put_numbered(out, at, b"refused ", refusals::number(r)),
     }
 }
 
@@ -150,9 +89,9 @@ pub fn put_line(out: &mut [u8], at: usize, r: Run) -> usize
     requires { ⌜ at + length (line r) ≤ length (now out) ⌝ }
     ensures { λ n. ⌜ Put (now (out .entry)) at (line r) (now (out .exit)) n ⌝ }
 {
-    let a = put_hex(out, at, 13, r.start);
+    let a = digits::put_hex(out, at, 13, r.start);
     out[a] = b' ';
-    let b = put_hex(out, a + 1, 13, r.last);
+    let b = digits::put_hex(out, a + 1, 13, r.last);
     out[b] = b' ';
     let answer = r.answer;
     let d = put_name(out, b + 1, answer);
@@ -164,7 +103,7 @@ pub fn put_line(out: &mut [u8], at: usize, r: Run) -> usize
 pub fn header_len(w: Widths) -> usize
     ensures { λ r. ⌜ r ≡ length (header w) ⌝ }
 {
-    18 + dec_len(w.pps) + dec_len(w.pgs) + dec_len(w.l0gptsz)
+    18 + digits::dec_len(w.pps) + digits::dec_len(w.pgs) + digits::dec_len(w.l0gptsz)
 }
 
 // The header's line.
@@ -172,10 +111,10 @@ pub fn put_header(out: &mut [u8], at: usize, w: Widths) -> usize
     requires { ⌜ at + length (header w) ≤ length (now out) ⌝ }
     ensures { λ r. ⌜ Put (now (out .entry)) at (header w) (now (out .exit)) r ⌝ }
 {
-    let a = put_numbered(out, at, b"gpt pps=", w.pps);
-    let b = put_numbered(out, a, b" pgs=", w.pgs);
-    let c = put_numbered(out, b, b" l0=", w.l0gptsz);
-    put(out, c, b"\n")
+    let a = digits::put_numbered(out, at, b"gpt pps=", w.pps);
+    let b = digits::put_numbered(out, a, b" pgs=", w.pgs);
+    let c = digits::put_numbered(out, b, b" l0=", w.l0gptsz);
+    digits::put(out, c, b"\n")
 }
 
 // How long the line of what is said, and a number, is.
@@ -183,7 +122,7 @@ pub fn told_len(what: &[u8], n: u64) -> usize
     requires { ⌜ length (now what) < 2 ^ 32 ⌝ }
     ensures { λ r. ⌜ r ≡ length (told (now (what .entry)) n) ⌝ }
 {
-    what.len() + dec_len(n) + 1
+    what.len() + digits::dec_len(n) + 1
 }
 
 // The line of what is said, and a number.
@@ -191,6 +130,6 @@ pub fn put_told(out: &mut [u8], at: usize, what: &[u8], n: u64) -> usize
     requires { ⌜ at + length (told (now what) n) ≤ length (now out) ⌝ }
     ensures { λ r. ⌜ Put (now (out .entry)) at (told (now (what .entry)) n) (now (out .exit)) r ⌝ }
 {
-    let b = put_numbered(out, at, what, n);
-    put(out, b, b"\n")
+    let b = digits::put_numbered(out, at, what, n);
+    digits::put(out, b, b"\n")
 }

@@ -42,7 +42,8 @@ use Rattle.gpt.specs.Set.{Made, setOf}
 use Rattle.mend.specs.declared.Mended.{Mended}
 use Rattle.mend.specs.declared.Checked.{Checked}
 use Rattle.mend.specs.Outcome.{Left, mendOf, checkOf}
-use Rattle.abi.specs.Packed.{configOf, lookedPacked, checkedPacked, SetLeft, MendLeft}
+use Rattle.packed.specs.Packed.{configOf, lookedPacked, checkedPacked}
+use Rattle.abi.specs.Left.{SetLeft, MendLeft}
 use Rattle.image.specs.declared.Read.{Read}
 use Rattle.image.specs.declared.Fault.{Fault}
 use Rattle.image.specs.Image.{readOf, faultNumber}

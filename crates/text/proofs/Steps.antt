@@ -23,7 +23,8 @@ use Rattle.image.specs.declared.Read.the-variants.{Bad, Whole}
 use Rattle.image.specs.Image.{readOf, faultNumber, l0Words, arenaWords}
 use Rattle.lines.specs.declared.Run.{Run}
 use Rattle.lines.specs.Lines.{ascii, header, line, told}
-use Rattle.lines.proofs.Bytes.{length-dec, length-name, length-line, length-header, length-told}
+use Rattle.digits.proofs.Bytes.{length-dec}
+use Rattle.lines.proofs.Lengths.{length-name, length-line, length-header, length-told}
 use Rattle.runs.specs.Runs.{from, total, First}
 use Rattle.runs.proofs.Walk.{some-run, none-left}
 use Rattle.text.specs.declared.Opening.{Opening}

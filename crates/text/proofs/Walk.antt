@@ -9,8 +9,8 @@ use native.Mathlib.Omega.{arith}
 use borrow.Author.Tests.{le-leb, lt-leb}
 use lib.ListN.{length, length-append}
 use lib.Seq.{sets}
-use Rattle.lines.specs.Lines.{Put}
-use Rattle.lines.proofs.Bytes.{sets-append, put-length}
+use Rattle.digits.specs.Digits.{Put}
+use Rattle.digits.proofs.Bytes.{sets-append, put-length}
 use Rattle.text.specs.declared.Chunk.{Chunk}
 use Rattle.text.specs.Chunks.{Step, bytesOf, front, after, none, Chunked}
 

@@ -5,7 +5,7 @@ use borrow.Author.Needs.{needs}
 use Rattle.abi.proofs.gpt_mend.Statement.{statement}
 use Rattle.abi.proofs.gpt_mend.Tie as tie
 use Rattle.abi.proofs.Few.{mend-small}
-use Rattle.abi.specs.Packed.{mendedPacked}
+use Rattle.packed.specs.Packed.{mendedPacked}
 
 config-requires : tie.Need-config-requires
 config-requires c κs = search needs

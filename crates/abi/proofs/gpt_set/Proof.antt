@@ -5,7 +5,7 @@ use Rattle.abi.proofs.gpt_set.Statement.{statement}
 use Rattle.abi.proofs.gpt_set.Tie as tie
 use mathlib.Core.Path.{ap, _∙_}
 use Rattle.abi.proofs.Few.{set-small}
-use Rattle.abi.specs.Packed.{changedPacked}
+use Rattle.packed.specs.Packed.{changedPacked}
 
 config-requires : tie.Need-config-requires
 config-requires c κs = search needs

@@ -1,7 +1,7 @@
 -- `lines::header_len` meets its contract.
 -- Assumes nothing.
 use native.Mathlib.Omega.{arith}
-use Rattle.lines.proofs.Bytes.{length-header}
+use Rattle.lines.proofs.Lengths.{length-header}
 use borrow.Author.Needs.{needs}
 use Rattle.lines.proofs.header_len.Statement.{statement}
 use Rattle.lines.proofs.header_len.Tie as tie

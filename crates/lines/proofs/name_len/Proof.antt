@@ -4,9 +4,10 @@ use mathlib.Core.Path.{ap}
 use lib.ListN.{length}
 use Rattle.gpt.specs.declared.Looked.{Looked}
 use Prim.Native.Nat.{ℕ}
-use Rattle.lines.specs.Lines.{dec, name}
+use Rattle.digits.specs.Digits.{dec}
+use Rattle.lines.specs.Lines.{name}
 use native.Mathlib.Omega.{arith}
-use Rattle.lines.proofs.Bytes.{length-name}
+use Rattle.lines.proofs.Lengths.{length-name}
 use borrow.Author.Needs.{needs}
 use Rattle.lines.proofs.name_len.Statement.{statement}
 use Rattle.lines.proofs.name_len.Tie as tie

@@ -1,7 +1,7 @@
 -- `lines::put_gpi` meets its contract.
 -- Assumes nothing.
 use Rattle.lines.specs.Lines.{names, gpiName}
-use Rattle.lines.proofs.Bytes.{part-put}
+use Rattle.digits.proofs.Bytes.{part-put}
 use borrow.Author.Needs.{needs}
 use Rattle.lines.proofs.put_gpi.Statement.{statement}
 use Rattle.lines.proofs.put_gpi.Tie as tie

@@ -2,8 +2,10 @@
 -- Assumes nothing.
 use native.Mathlib.Omega.{arith}
 use lib.ListN.{length-append}
-use Rattle.lines.specs.Lines.{ascii, dec, header}
-use Rattle.lines.proofs.Bytes.{then-put, put-length, length-header}
+use Rattle.digits.specs.Digits.{dec}
+use Rattle.lines.specs.Lines.{ascii, header}
+use Rattle.digits.proofs.Bytes.{then-put, put-length}
+use Rattle.lines.proofs.Lengths.{length-header}
 use borrow.Author.Needs.{needs}
 use Rattle.lines.proofs.put_header.Statement.{statement}
 use Rattle.lines.proofs.put_header.Tie as tie

@@ -5,7 +5,8 @@ use native.Mathlib.Omega.{arith}
 use Prim.Native.Nat.{_≤_, _<_, _+_}
 use lib.ListN.{length, length-set}
 use Rattle.lines.specs.Lines.{name, line}
-use Rattle.lines.proofs.Bytes.{length-line, length-hex, then-put, one-put, put-length}
+use Rattle.digits.proofs.Bytes.{length-hex, then-put, one-put, put-length}
+use Rattle.lines.proofs.Lengths.{length-line}
 use Rattle.lines.proofs.put_line.Statement.{statement}
 use Rattle.lines.proofs.put_line.Tie as tie
 

@@ -5,7 +5,8 @@ use native.Mathlib.Omega.{arith}
 use lib.ListN.{length}
 use Rattle.gpt.specs.declared.Looked.{Looked}
 use Prim.Native.Nat.{ℕ}
-use Rattle.lines.specs.Lines.{dec, name}
+use Rattle.digits.specs.Digits.{dec}
+use Rattle.lines.specs.Lines.{name}
 use borrow.Author.Needs.{needs}
 use Rattle.lines.proofs.put_name.Statement.{statement}
 use Rattle.lines.proofs.put_name.Tie as tie

@@ -2,8 +2,10 @@
 -- Assumes nothing.
 use native.Mathlib.Omega.{arith}
 use lib.ListN.{length-append}
-use Rattle.lines.specs.Lines.{dec, told}
-use Rattle.lines.proofs.Bytes.{then-put, put-length, length-told}
+use Rattle.digits.specs.Digits.{dec}
+use Rattle.lines.specs.Lines.{told}
+use Rattle.digits.proofs.Bytes.{then-put, put-length}
+use Rattle.lines.proofs.Lengths.{length-told}
 use borrow.Author.Needs.{needs}
 use Rattle.lines.proofs.put_told.Statement.{statement}
 use Rattle.lines.proofs.put_told.Tie as tie

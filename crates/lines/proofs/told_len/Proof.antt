@@ -1,7 +1,7 @@
 -- `lines::told_len` meets its contract.
 -- Assumes nothing.
 use native.Mathlib.Omega.{arith}
-use Rattle.lines.proofs.Bytes.{length-told}
+use Rattle.lines.proofs.Lengths.{length-told}
 use borrow.Author.Needs.{needs}
 use Rattle.lines.proofs.told_len.Statement.{statement}
 use Rattle.lines.proofs.told_len.Tie as tie

@@ -8,7 +8,8 @@ use lib.ListN.{length}
 use lib.Pow.{pow-mono}
 use Rattle.gpt.specs.Lookup.{lookupOf}
 use Rattle.lines.specs.Lines.{line}
-use Rattle.lines.proofs.Bytes.{length-line, put-length}
+use Rattle.digits.proofs.Bytes.{put-length}
+use Rattle.lines.proofs.Lengths.{length-line}
 use Rattle.runs.specs.Runs.{total}
 use Rattle.runs.proofs.Near.{pps-most}
 use Rattle.text.specs.declared.Chunk.{Chunk}

@@ -1,10 +1,10 @@
--- `abi::pack_checked` meets its contract: each arm is told which answer it is.
+-- `packed::pack_checked` meets its contract: each arm is told which answer it is.
 -- Assumes nothing.
 use native.Mathlib.Omega.{arith}
 use borrow.Author.Needs.{needs}
-use Rattle.abi.proofs.pack_checked.Statement.{statement}
-use Rattle.abi.proofs.pack_checked.Tie as tie
-use Rattle.abi.specs.Packed.{checkedPacked}
+use Rattle.packed.proofs.pack_checked.Statement.{statement}
+use Rattle.packed.proofs.pack_checked.Tie as tie
+use Rattle.packed.specs.Packed.{checkedPacked}
 
 enum-told : tie.Need-enum-told
 enum-told c = search needs

@@ -1,9 +1,9 @@
--- `lines::digit` meets its contract.
+-- `digits::digit` meets its contract.
 -- Assumes nothing.
-use Rattle.lines.proofs.Bytes.{digit-low, digit-high}
+use Rattle.digits.proofs.Bytes.{digit-low, digit-high}
 use borrow.Author.Needs.{needs}
-use Rattle.lines.proofs.digit.Statement.{statement}
-use Rattle.lines.proofs.digit.Tie as tie
+use Rattle.digits.proofs.digit.Statement.{statement}
+use Rattle.digits.proofs.digit.Tie as tie
 
 cast-result : tie.Need-cast-result
 cast-result c = search needs

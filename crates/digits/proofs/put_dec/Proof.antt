@@ -1,13 +1,13 @@
--- `lines::put_dec` meets its contract.
+-- `digits::put_dec` meets its contract.
 -- Assumes nothing.
 use mathlib.Core.Path.{refl, ap}
 use native.Mathlib.Numerals.{add-one}
 use native.Mathlib.Omega.{arith}
 use lib.ListN.{length, length-set}
-use Rattle.lines.proofs.Bytes.{dec-one, dec-two}
+use Rattle.digits.proofs.Bytes.{dec-one, dec-two}
 use borrow.Author.Needs.{needs}
-use Rattle.lines.proofs.put_dec.Statement.{statement}
-use Rattle.lines.proofs.put_dec.Tie as tie
+use Rattle.digits.proofs.put_dec.Statement.{statement}
+use Rattle.digits.proofs.put_dec.Tie as tie
 
 cast-out : tie.Need-cast-out
 cast-out c = search needs

@@ -1,8 +1,8 @@
--- `abi::config` meets its contract: each field is the lent one, each flag its bit.
+-- `packed::config` meets its contract: each field is the lent one, each flag its bit.
 -- Assumes nothing.
 use borrow.Author.Needs.{needs}
-use Rattle.abi.proofs.config.Statement.{statement}
-use Rattle.abi.proofs.config.Tie as tie
+use Rattle.packed.proofs.config.Statement.{statement}
+use Rattle.packed.proofs.config.Tie as tie
 
 bit-requires : tie.Need-bit-requires
 bit-requires c κs = search needs

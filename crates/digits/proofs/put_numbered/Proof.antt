@@ -1,9 +1,9 @@
--- `lines::put_numbered` meets its contract.
+-- `digits::put_numbered` meets its contract.
 -- Assumes nothing.
-use Rattle.lines.proofs.Bytes.{then-put}
+use Rattle.digits.proofs.Bytes.{then-put}
 use borrow.Author.Needs.{needs}
-use Rattle.lines.proofs.put_numbered.Statement.{statement}
-use Rattle.lines.proofs.put_numbered.Tie as tie
+use Rattle.digits.proofs.put_numbered.Statement.{statement}
+use Rattle.digits.proofs.put_numbered.Tie as tie
 
 put-requires : tie.Need-put-requires
 put-requires c κs = search needs

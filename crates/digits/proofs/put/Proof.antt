@@ -1,4 +1,4 @@
--- `lines::put` meets its contract. What is left to copy says the same as the whole.
+-- `digits::put` meets its contract. What is left to copy says the same as the whole.
 -- Assumes nothing.
 use mathlib.Core.Path.{_≡_, refl}
 use Prim.Native.Nat.{_≤_, _-_, _+_}
@@ -6,9 +6,9 @@ use native.Mathlib.Nat.{add-zero}
 use native.Mathlib.Omega.{arith}
 use lib.ListN.{length, drop, length-set}
 use lib.Seq.{sets}
-use Rattle.lines.proofs.Bytes.{copy-more, copy-end}
-use Rattle.lines.proofs.put.Statement.{statement}
-use Rattle.lines.proofs.put.Tie as tie
+use Rattle.digits.proofs.Bytes.{copy-more, copy-end}
+use Rattle.digits.proofs.put.Statement.{statement}
+use Rattle.digits.proofs.put.Tie as tie
 
 abbrev Inv-loop : tie.InvT-loop
 Inv-loop out₀ at src k₀ out k = (k ≤ length src) × (sets out₀ at src ≡ sets out (at + k) (drop k src)) × (length out ≡ length out₀)

@@ -1,11 +1,11 @@
--- `abi::pack_looked` meets its contract: a GPI is below 16, so the product fits.
+-- `packed::pack_looked` meets its contract: a GPI is below 16, so the product fits.
 -- Assumes nothing.
 use borrow.Author.Needs.{needs}
-use Rattle.abi.proofs.pack_looked.Statement.{statement}
-use Rattle.abi.proofs.pack_looked.Tie as tie
+use Rattle.packed.proofs.pack_looked.Statement.{statement}
+use Rattle.packed.proofs.pack_looked.Tie as tie
 use native.Mathlib.Omega.{arith}
 use Rattle.gpi.proofs.Rules.{num-lt}
-use Rattle.abi.specs.Packed.{lookedPacked}
+use Rattle.packed.specs.Packed.{lookedPacked}
 
 enum-known-s : tie.Need-enum-known-s
 enum-known-s c = search needs

@@ -1,10 +1,10 @@
--- `abi::pack_changed` meets its contract, by the small counts that it asks.
+-- `packed::pack_changed` meets its contract, by the small counts that it asks.
 -- Assumes nothing.
 use borrow.Author.Needs.{needs}
-use Rattle.abi.proofs.pack_changed.Statement.{statement}
-use Rattle.abi.proofs.pack_changed.Tie as tie
+use Rattle.packed.proofs.pack_changed.Statement.{statement}
+use Rattle.packed.proofs.pack_changed.Tie as tie
 use native.Mathlib.Omega.{arith}
-use Rattle.abi.specs.Packed.{changedPacked}
+use Rattle.packed.specs.Packed.{changedPacked}
 
 enum-known-a : tie.Need-enum-known-a
 enum-known-a c = search needs

@@ -1,11 +1,11 @@
--- `lines::dec_len` meets its contract.
+-- `digits::dec_len` meets its contract.
 -- Assumes nothing.
 use mathlib.Core.Path.{sym, ap}
 use native.Mathlib.Omega.{arith}
 use lib.ListN.{length}
-use Rattle.lines.proofs.Bytes.{dec-one, dec-two}
-use Rattle.lines.proofs.dec_len.Statement.{statement}
-use Rattle.lines.proofs.dec_len.Tie as tie
+use Rattle.digits.proofs.Bytes.{dec-one, dec-two}
+use Rattle.digits.proofs.dec_len.Statement.{statement}
+use Rattle.digits.proofs.dec_len.Tie as tie
 
 returns : tie.Need-returns
 returns c = (sym (ap length (dec-one _ (c .if1 .taken))), omega arith)

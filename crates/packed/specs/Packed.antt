@@ -1,19 +1,16 @@
 -- The C interface's numbers: docs/ABI.md. What comes with an answer is packed with it into one number.
 -- Assumes nothing: these are definitions.
-use mathlib.Core.Path.{_≡_}
 use mathlib.Core.Bool.{Bool, cond}
-use mathlib.Core.List.{List}
 use Prim.Native.Nat.{ℕ, _+_, _*_, _/_, _%_, _≤_}
 use lib.Dec.{eqb}
 use Rattle.config.specs.declared.Config.{Config}
 use Rattle.gpt.specs.declared.Looked.{Looked}
 use Rattle.gpt.specs.Lookup.{lookedNumber, lookedGpi}
 use Rattle.gpt.specs.declared.Changed.{Changed}
-use Rattle.gpt.specs.Set.{Outcome, changedNumber, changedRecords, changedStores}
+use Rattle.gpt.specs.Set.{changedNumber, changedRecords, changedStores}
 use Rattle.mend.specs.declared.Mended.{Mended}
 use Rattle.mend.specs.declared.Checked.{Checked}
 use Rattle.mend.specs.Outcome.{mendedNumber, mendedStores, checkedNumber, checkedYes}
-use Rattle.mend.specs.Outcome.{Outcome as MendOutcome}
 
 -- the flag of weight d in the flags byte
 abbrev pub bitOf : ℕ → ℕ → Bool
@@ -52,23 +49,12 @@ mendedPacked m = mendedNumber m + 65536 * mendedStores m
 unfoldable pub checkedPacked : Checked → ℕ
 checkedPacked k = checkedNumber k + 256 * cond (checkedYes k) 1 0
 
--- what a set hands back and leaves
-pub record SetLeft (o : Outcome) (r : ℕ) (A L : List ℕ) : Type 0 where
-  pub answer : r ≡ changedPacked (o .answer)
-  pub arena : A ≡ o .arena
-  pub log : L ≡ o .log
-
--- what a mend hands back and leaves
-pub record MendLeft (o : MendOutcome) (r : ℕ) (A : List ℕ) : Type 0 where
-  pub answer : r ≡ mendedPacked (o .answer)
-  pub arena : A ≡ o .arena
-
--- each part within its place, so that none runs into the next (`Few.set-small` has it of every set)
+-- each part within its place, so that none runs into the next (`set-small` of `abi` has it of every set)
 pub record Small (r : Changed) : Type 0 where
   pub number : changedNumber r ≤ 10
   pub records : changedRecords r ≤ 13
   pub stores : changedStores r ≤ 16385
 
--- the same of a mend (`Few.mend-small`): at most the words of the largest table
+-- the same of a mend (`mend-small`): at most the words of the largest table
 abbrev pub Few : Mended → Type 0
 Few m = mendedStores m ≤ 8388608

@@ -1,14 +1,14 @@
--- `lines::put_hex` meets its contract. What is left to write says the same as the whole.
+-- `digits::put_hex` meets its contract. What is left to write says the same as the whole.
 -- Assumes nothing.
 use mathlib.Core.Path.{_≡_, refl}
 use Prim.Native.Nat.{_≤_, _+_}
 use native.Mathlib.Omega.{arith}
 use lib.ListN.{length, length-set}
 use lib.Seq.{sets}
-use Rattle.lines.specs.Lines.{hex}
-use Rattle.lines.proofs.Bytes.{hex-more, hex-end}
-use Rattle.lines.proofs.put_hex.Statement.{statement}
-use Rattle.lines.proofs.put_hex.Tie as tie
+use Rattle.digits.specs.Digits.{hex}
+use Rattle.digits.proofs.Bytes.{hex-more, hex-end}
+use Rattle.digits.proofs.put_hex.Statement.{statement}
+use Rattle.digits.proofs.put_hex.Tie as tie
 
 abbrev Inv-loop : tie.InvT-loop
 Inv-loop out₀ at n x left₀ i₀ out left i = (left ≤ n) × (i + left ≡ at + n) × (sets out₀ at (hex n x) ≡ sets out i (hex left x)) × (length out ≡ length out₀)

@@ -1,10 +1,10 @@
--- `abi::pack_mended` meets its contract: by the small count that it asks, the product fits.
+-- `packed::pack_mended` meets its contract: by the small count that it asks, the product fits.
 -- Assumes nothing.
 use native.Mathlib.Omega.{arith}
 use borrow.Author.Needs.{needs}
-use Rattle.abi.proofs.pack_mended.Statement.{statement}
-use Rattle.abi.proofs.pack_mended.Tie as tie
-use Rattle.abi.specs.Packed.{mendedPacked}
+use Rattle.packed.proofs.pack_mended.Statement.{statement}
+use Rattle.packed.proofs.pack_mended.Tie as tie
+use Rattle.packed.specs.Packed.{mendedPacked}
 
 enum-known-m : tie.Need-enum-known-m
 enum-known-m c = search needs
