@@ -1,7 +1,8 @@
 // Document 01's cases C1 to C12, run through the compiled code: a line for each, held to the stored output, which was written from the document;
-// and demand 3 on C7 (`cuts`).
+// the exports of the C interface (`exports`); and demand 3 on C7 (`cuts`).
 mod base;
 mod cuts;
+mod exports;
 
 fn lookups(a: &mut [u64]) {
     base::looked(b"C1 lookup ", base::fields(0, true), a, 0x3FFF_FFFF);
@@ -126,5 +127,6 @@ fn main() {
     run_more_sets();
     run_stopped_after_shatter();
     run_short_lents();
+    exports::run();
     cuts::run();
 }

@@ -1,5 +1,9 @@
 -- `abi::gpt_check` meets its contract: the call's answer, packed.
 -- Assumes nothing.
+use mathlib.Core.Path.{ap, _∙_}
+use Rattle.config.specs.declared.Config.{Config}
+use Rattle.mend.specs.Outcome.{checkOf}
+use Rattle.packed.specs.Packed.{checkedPacked}
 use borrow.Author.Needs.{needs}
 use Rattle.abi.proofs.gpt_check.Statement.{statement}
 use Rattle.abi.proofs.gpt_check.Tie as tie
@@ -14,7 +18,11 @@ pack-checked-requires : tie.Need-pack-checked-requires
 pack-checked-requires c κs = search needs
 
 returns : tie.Need-returns
-returns c = rw (← c .before .before .config .ensures, ← c .before .check .ensures) (c .pack-checked .ensures)
+returns c =
+    let a = c .before .before .before .before .before .args in
+    c .pack-checked .ensures
+    ∙ ap checkedPacked (c .before .check .ensures)
+    ∙ ap (λ (k : Config). checkedPacked (checkOf k (a .l0 .now) (a .arena .now) (a .base) (a .address))) (c .before .before .config .ensures)
 
 pub gpt-check-spec : {M : Type 1} → statement M
 gpt-check-spec = tie.close (tie.spec config-requires check-requires pack-checked-requires returns)

@@ -1,5 +1,9 @@
 -- `abi::gpt_lookup` meets its contract: the call's answer, packed.
 -- Assumes nothing.
+use mathlib.Core.Path.{ap, _∙_}
+use Rattle.config.specs.declared.Config.{Config}
+use Rattle.gpt.specs.Lookup.{lookupOf}
+use Rattle.packed.specs.Packed.{lookedPacked}
 use borrow.Author.Needs.{needs}
 use Rattle.abi.proofs.gpt_lookup.Statement.{statement}
 use Rattle.abi.proofs.gpt_lookup.Tie as tie
@@ -14,7 +18,11 @@ pack-looked-requires : tie.Need-pack-looked-requires
 pack-looked-requires c κs = search needs
 
 returns : tie.Need-returns
-returns c = rw (← c .before .before .config .ensures, ← c .before .lookup .ensures) (c .pack-looked .ensures)
+returns c =
+    let a = c .before .before .before .before .before .args in
+    c .pack-looked .ensures
+    ∙ ap lookedPacked (c .before .lookup .ensures)
+    ∙ ap (λ (k : Config). lookedPacked (lookupOf k (a .l0 .now) (a .arena .now) (a .base) (a .address))) (c .before .before .config .ensures)
 
 pub gpt-lookup-spec : {M : Type 1} → statement M
 gpt-lookup-spec = tie.close (tie.spec config-requires lookup-requires pack-looked-requires returns)

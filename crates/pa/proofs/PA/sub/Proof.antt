@@ -4,7 +4,7 @@ use borrow.Author.Needs.{needs}
 use borrow.Author.Tests.{le-ltb, lt-ltb}
 use mathlib.Core.Path.{_≡_, sym, ap, subst, _∙_}
 use mathlib.Core.Bool.{Bool, true, false, cond}
-use Prim.Native.Nat.{ℕ, zero, suc, _<_, _^_, _-_}
+use Prim.Native.Nat.{ℕ, zero, suc, _≤_, _<_, _^_, _-_}
 use native.Mathlib.Omega.{arith}
 use lib.IntN.{ℤ, pos, negsuc, _-ℤ_}
 use lib.Dec.{ltb}
@@ -34,11 +34,18 @@ machine a b p q = ap (λ (z : ℤ). z -ℤ toZ w64 b) (toZ-pos w64 a (omega arit
 exact : (a b : ℕ) → a < 2 ^ 52 → b < 2 ^ 52 → SFits w64 (toZ w64 a -ℤ toZ w64 b)
 exact a b p q = subst (SFits w64) (sym (machine a b p q)) (record { sfits = near a b p q })
 
+-- the definition's cases
+first-high : (a b : ℕ) → 2 ^ 52 ≤ a → Refused ≡ distanceOf a b
+first-high a b p = simp (le-ltb _ _ p)
+
+second-high : (a b : ℕ) → a < 2 ^ 52 → 2 ^ 52 ≤ b → Refused ≡ distanceOf a b
+second-high a b p q = simp (lt-ltb _ _ p, le-ltb _ _ q)
+
 returns : tie.Need-returns
-returns c = simp (le-ltb _ _ (c .if1 .taken))
+returns c = let a = c .before .args in first-high (a .self .0) (a .other .0) (c .if1 .taken)
 
 returns-2 : tie.Need-returns-2
-returns-2 c = simp (lt-ltb _ _ (c .before .if1 .left), le-ltb _ _ (c .if2 .taken))
+returns-2 c = let a = c .before .before .args in second-high (a .self .0) (a .other .0) (c .before .if1 .left) (c .if2 .taken)
 
 cast-t6 : tie.Need-cast-t6
 cast-t6 c = search needs
