@@ -5,7 +5,7 @@
 use mathlib.Core.Path.{_≡_, refl, sym, _∙_, ap, ap₂}
 use mathlib.Core.Bool.{Bool}
 use mathlib.Core.List.{List}
-use Prim.Native.Nat.{ℕ, _+_}
+use Prim.Native.Nat.{ℕ, _+_, _≤_}
 use lib.Dec.{eqb}
 use lib.ListN.{length}
 use Rattle.gpi.specs.declared.Gpi.{Gpi}
@@ -33,11 +33,12 @@ use Rattle.config.specs.Fields.{ppsWidth, pgsWidth, l0gptszWidth, configuredOf,
 use Rattle.place.specs.declared.Ask.{Ask}
 use Rattle.place.specs.declared.Place.{Place}
 use Rattle.refusals.specs.declared.Refusal.{Refusal}
-use Rattle.refusals.specs.Refusals.{refusalNumber}
-use Rattle.place.specs.Place.{placeOf}
+use Rattle.refusals.specs.declared.Call.{Call}
+use Rattle.refusals.specs.Refusals.{refusalNumber, arenaBad, logShort, gpiBad}
+use Rattle.place.specs.Place.{placeOf, seeking}
 use Rattle.gpt.specs.declared.Looked.{Looked}
 use Rattle.gpt.specs.declared.Changed.{Changed}
-use Rattle.gpt.specs.Lookup.{lookupOf}
+use Rattle.gpt.specs.Lookup.{granted, lookupOf}
 use Rattle.gpt.specs.Set.{Made, setOf}
 use Rattle.mend.specs.declared.Mended.{Mended}
 use Rattle.mend.specs.declared.Checked.{Checked}
@@ -47,6 +48,7 @@ use Rattle.abi.specs.Left.{SetLeft, MendLeft}
 use Rattle.image.specs.declared.Read.{Read}
 use Rattle.image.specs.declared.Fault.{Fault}
 use Rattle.image.specs.Image.{readOf, faultNumber}
+use Rattle.digits.specs.Digits.{dec}
 use Rattle.lines.specs.Lines.{name, header}
 use Rattle.text.specs.declared.Chunk.{Chunk}
 use Rattle.text.specs.Chunks.{Step, none, Chunked, tableSteps, dumpSteps}
@@ -136,9 +138,11 @@ module _ (t : List ℕ) (width d : ℕ) where
   pub view-word_of : One (λ (s : Seen). s ≡ seenAt t width d)
   view-word_of = is _
 
-  -- `gpi_through` has the same
   pub view-gpi_of : One (λ (s : Held). s ≡ heldAt t width d)
   view-gpi_of = is _
+
+  pub view-gpi_through : One (λ (s : Held). s ≡ heldAt t width d)
+  view-gpi_through = view-gpi_of
 
 -- ---- the leaves
 
@@ -222,12 +226,36 @@ config-configure c = is _
 pub config-is_gpi_supported : (c : Config) (g : Gpi) → One (λ (r : Bool). r ≡ supportedOf c g)
 config-is_gpi_supported c g = is _
 
-pub place-number : (e : Refusal) → One (λ (r : ℕ). r ≡ refusalNumber e)
-place-number e = is _
+pub refusals-number : (e : Refusal) → One (λ (r : ℕ). r ≡ refusalNumber e)
+refusals-number e = is _
 
--- `find` has the same, of what a call that is no set asks
+pub refusals-arena_bad : (b : PA) (n : ℕ) → One (λ (r : Bool). r ≡ arenaBad (b .0) n)
+refusals-arena_bad b n = is _
+
+pub refusals-log_short : (k : Call) → One (λ (r : Bool). r ≡ logShort k)
+refusals-log_short k = is _
+
+pub refusals-gpi_bad : (c : Config) (k : Call) → One (λ (r : Bool). r ≡ gpiBad c k)
+refusals-gpi_bad c k = is _
+
+pub gpt-grant : (c : Config) (g : Gpi) (e : Refusal) → One (λ (r : Looked). r ≡ granted c g e)
+gpt-grant c g e = is _
+
+module _ (p g l f : ℕ) where
+  pub packed-config : One (λ (r : Config). r ≡ configOf p g l f)
+  packed-config = is _
+
+pub packed-pack_looked : (a : Looked) → One (λ (r : ℕ). r ≡ lookedPacked a)
+packed-pack_looked a = is _
+
+pub packed-pack_checked : (a : Checked) → One (λ (r : ℕ). r ≡ checkedPacked a)
+packed-pack_checked a = is _
+
 pub place-resolve : (q : Ask) (l : List ℕ) → One (λ (r : Place). r ≡ placeOf q l)
 place-resolve q l = is _
+
+pub place-find : (c : Config) (n : ℕ) (b x : PA) (l : List ℕ) → One (λ (r : Place). r ≡ placeOf (seeking c n (b .0) (x .0)) l)
+place-find c n b x l = is _
 
 -- how long a line of the dump is
 pub lines-line_len : (a : Looked) → One (λ (r : ℕ). r ≡ 29 + length (name a))
@@ -235,3 +263,6 @@ lines-line_len a = is _
 
 pub lines-header_len : (w : Widths) → One (λ (r : ℕ). r ≡ length (header w))
 lines-header_len w = is _
+
+pub digits-dec_len : (x : ℕ) → One (λ (r : ℕ). (r ≡ length (dec x)) × (r ≤ 2))
+digits-dec_len x r q m n = same (m .0) (n .0)
