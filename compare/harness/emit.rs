@@ -2,7 +2,8 @@
 //! byte first; crates/replay/README.md says what each means.
 
 use crate::sys::{self, Region};
-use crate::world::{Rng, Scale, World};
+use crate::random::Rng;
+use crate::world::{Scale, World};
 use crate::{ask_port, ask_rust, beyond};
 
 /// What the program has room for.

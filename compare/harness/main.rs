@@ -1,15 +1,20 @@
 //! The differential run: requests from a seeded generator go to the port and to the unchanged Rust, and everything that can be seen of both is
 //! compared: answer, GPI, every arena word, every barrier with its operands, and on a part of the requests the order of every single store.
 
+mod classes;
 mod emit;
 #[allow(dead_code)]
 mod port;
+mod random;
+mod request;
 mod sys;
 mod world;
 
-use std::collections::BTreeMap;
 use sys::Region;
-use world::{Request, Rng, Scale, World};
+use classes::{Class, Tally, expected, granule_name, size_name};
+use random::Rng;
+use request::Request;
+use world::{Scale, World};
 
 const CANARY: u64 = 0xC0FF_EE00_C0FF_EE00;
 const LOG: usize = 64;
@@ -73,7 +78,7 @@ fn beyond(w: &World, l0: &Region, q: &Request) -> Option<&'static [u64]> {
     if q.address >> p != 0 {
         return None;
     }
-    if q.set.is_some_and(|g| !world::known(g)) {
+    if q.set.is_some_and(|g| !random::known(g)) {
         return Some(&[6]);
     }
     let word = l0.slice()[(q.address >> l) as usize];
@@ -82,46 +87,6 @@ fn beyond(w: &World, l0: &Region, q: &Request) -> Option<&'static [u64]> {
         return Some(if q.set.is_some() { &[6, 8] } else { &[8] });
     }
     None
-}
-
-/// The largest size in bytes, named.
-fn size_name(bytes: u64) -> &'static str {
-    match bytes {
-        0 => "-",
-        0x20_0000 => "2 MB",
-        0x200_0000 => "32 MB",
-        0x2000_0000 => "512 MB",
-        _ => "?",
-    }
-}
-
-#[derive(PartialEq, Eq, PartialOrd, Ord)]
-struct Class {
-    call: &'static str,
-    answer: u64,
-    granule: &'static str,
-    shatter: &'static str,
-    fuse: &'static str,
-}
-
-#[derive(Default)]
-struct Tally {
-    compared: u64,
-    traced: u64,
-    stores_traced: u64,
-    differ: u64,
-    beyond: BTreeMap<u64, u64>,
-    classes: BTreeMap<Class, u64>,
-    combinations: BTreeMap<(u8, u8, u8), u64>,
-}
-
-pub fn granule_name(w: &World) -> &'static str {
-    match w.bits {
-        Some((_, 12, _)) => "4 KB",
-        Some((_, 14, _)) => "16 KB",
-        Some((_, 16, _)) => "64 KB",
-        _ => "-",
-    }
 }
 
 /// The port's log against its counts, the model and the Rust's events; leaves the model as the log says the arena is. Says what is wrong.
@@ -286,37 +251,6 @@ impl Run {
         }
         w.clear_l0(&mut self.l0);
     }
-}
-
-/// The classes that can be: document 01's answers, and which fuses can follow which shatter. A shattered range is of one GPI, so what follows is
-/// at least that large or nothing, and a shattered 512 MB range has no invalid word left.
-fn expected() -> Vec<Class> {
-    let mut all = Vec::new();
-    let sizes = ["-", "2 MB", "32 MB", "512 MB"];
-    for answer in [1, 2] {
-        for call in ["lookup", "set"] {
-            all.push(Class { call, answer, granule: "-", shatter: "-", fuse: "-" });
-        }
-    }
-    for granule in ["4 KB", "16 KB", "64 KB"] {
-        for answer in [0, 6, 7, 9] {
-            all.push(Class { call: "lookup", answer, granule, shatter: "-", fuse: "-" });
-        }
-        for answer in [6, 7, 9] {
-            all.push(Class { call: "set", answer, granule, shatter: "-", fuse: "-" });
-        }
-        for (s, shatter) in sizes.into_iter().enumerate() {
-            for (f, fuse) in sizes.into_iter().enumerate() {
-                if f == 0 || f >= s {
-                    all.push(Class { call: "set", answer: 0, granule, shatter, fuse });
-                }
-            }
-            if s < 3 {
-                all.push(Class { call: "set", answer: 10, granule, shatter, fuse: "-" });
-            }
-        }
-    }
-    all
 }
 
 fn main() {
