@@ -11,30 +11,30 @@ use Rattle.gpi.specs.declared.Gpi.{Gpi}
 use Rattle.gpi.specs.declared.Nibble.{Nibble}
 use Rattle.gpi.specs.declared.Nibble.the-variants.{Known, Reserved}
 use Rattle.gpi.specs.Gpi.{num, gpiAt}
-use Rattle.tables.specs.Format.{Format, Laws, gpi}
-use Rattle.tables.specs.Normal.{at, span, normalWord}
-use Rattle.tables.specs.Events.{granule, count}
-use Rattle.tables.specs.Set.{Fused, nowhere, level, refused, barriers, breaks, broken, brokenBarriers, newWord, fusing, fused, storeEvents, setEvents}
-use Rattle.tables.proofs.Mend.{mendCount-is, differing-few}
-use Rattle.tables.proofs.Set.{at-most-13, count-append, count-fill, count-shatter, fusing-level}
-use Rattle.words.specs.Arm.{arm}
-use Rattle.words.proofs.Arm.{arm-laws}
+use Rattle.theory.specs.Format.{Format, Laws, gpi}
+use Rattle.theory.specs.Normal.{at, span, normalWord}
+use Rattle.theory.specs.Events.{granule, count}
+use Rattle.theory.specs.Set.{Fused, nowhere, level, refused, barriers, breaks, broken, brokenBarriers, newWord, fusing, fused, storeEvents, setEvents}
+use Rattle.theory.proofs.Mend.{mendCount-is, differing-few}
+use Rattle.theory.proofs.Set.{at-most-13, count-append, count-fill, count-shatter, fusing-level}
+use Rattle.l1.specs.Arm.{arm}
+use Rattle.l1.proofs.Arm.{arm-laws}
 use Rattle.config.specs.declared.Config.{Config}
-use Rattle.place.specs.declared.Site.{Site}
-use Rattle.place.specs.declared.Place.{Place}
-use Rattle.place.specs.declared.Place.the-variants.{No, Block, Table}
-use Rattle.refusals.specs.declared.Refusal.{Refusal}
-use Rattle.refusals.specs.declared.Refusal.the-variants.{InvalidRequest, InvalidL1Entry}
-use Rattle.place.specs.Place.{placeOf, tableOf}
-use Rattle.refusals.proofs.Numbers.{refusal-number}
-use Rattle.place.proofs.Promises.{resolved, table-length}
+use Rattle.resolve.specs.declared.Site.{Site}
+use Rattle.resolve.specs.declared.Place.{Place}
+use Rattle.resolve.specs.declared.Place.the-variants.{No, Block, Table}
+use Rattle.resolve.specs.declared.Refusal.{Refusal}
+use Rattle.resolve.specs.declared.Refusal.the-variants.{InvalidRequest, InvalidL1Entry}
+use Rattle.resolve.specs.Place.{placeOf, tableOf}
+use Rattle.resolve.proofs.Numbers.{refusal-number}
+use Rattle.resolve.proofs.Promises.{resolved, table-length}
 use Rattle.stores.specs.declared.Tally.{Tally}
-use Rattle.sets.specs.Table.{answerOf}
+use Rattle.set_table.specs.Table.{answerOf}
 use Rattle.gpt.specs.declared.Changed.the-variants.{Refused}
 use Rattle.gpt.specs.Lookup.{plain}
 use Rattle.gpt.specs.Set.{changedBy, siteSet, asking, setAt, setOf}
 use Rattle.mend.specs.Outcome.{mendedAt, mendOf}
-use Rattle.packed.specs.Packed.{Small, Few}
+use Rattle.abi.specs.Packed.{Small, Few}
 
 -- ---- how many stores
 

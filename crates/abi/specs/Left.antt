@@ -5,7 +5,7 @@ use mathlib.Core.List.{List}
 use Prim.Native.Nat.{ℕ}
 use Rattle.gpt.specs.Set.{Outcome}
 use Rattle.mend.specs.Outcome.{Outcome as MendOutcome}
-use Rattle.packed.specs.Packed.{changedPacked, mendedPacked}
+use Rattle.abi.specs.Packed.{changedPacked, mendedPacked}
 
 -- what a set hands back and leaves
 pub record SetLeft (o : Outcome) (r : ℕ) (A L : List ℕ) : Type 0 where

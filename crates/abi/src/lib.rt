@@ -1,11 +1,97 @@
+// The C interface's numbers: docs/ABI.md. Fields and flags made a configuration, and each call's answer made one number.
 // The C interface: docs/ABI.md. Each export packs what its call answers into one number; what it leaves is what the call leaves.
 ghost use mathlib.Core.Path.{_≡_};
+ghost use Prim.Native.Nat.{_+_, _*_, _<_, _≤_};
+ghost use Rattle.abi.specs.Packed.{bitOf, configOf, lookedPacked, changedPacked, mendedPacked, checkedPacked, Small, Few};
 ghost use Rattle.gpt.specs.Lookup.{lookupOf};
 ghost use Rattle.gpt.specs.Set.{setOf};
 ghost use Rattle.mend.specs.Outcome.{mendOf, checkOf};
-ghost use Rattle.packed.specs.Packed.{configOf, lookedPacked, checkedPacked};
 ghost use Rattle.abi.specs.Left.{SetLeft, MendLeft};
+use config::Config;
+use gpt::Changed;
+use gpt::Looked;
+use mend::Checked;
+use mend::Mended;
 use pa::PA;
+use stores::Tally;
+
+// The flag of weight d in the flags byte.
+fn bit(flags: u8, d: u8) -> bool
+    requires { ⌜ 0 < d ⌝ }
+    ensures { λ r. ⌜ r ≡ bitOf flags d ⌝ }
+{
+    (flags / d) % 2 == 1
+}
+
+// The configuration of three fields and the flags byte.
+pub fn config(pps: u8, pgs: u8, l0gptsz: u8, flags: u8) -> Config
+    ensures { λ r. ⌜ r ≡ configOf pps pgs l0gptsz flags ⌝ }
+{
+    Config {
+        pps,
+        pgs,
+        l0gptsz,
+        gpc: bit(flags, 1),
+        sa: bit(flags, 2),
+        nsp: bit(flags, 4),
+        na6: bit(flags, 8),
+        na7: bit(flags, 16),
+        nso: bit(flags, 32),
+        gdi: bit(flags, 64),
+        gpc2: bit(flags, 128),
+    }
+}
+
+// A lookup's answer, with its GPI.
+pub fn pack_looked(s: Looked) -> u64
+    ensures { λ r. ⌜ r ≡ lookedPacked s ⌝ }
+{
+    match s {
+        Looked::Ok(g) => 256 * gpi::number(g),
+        Looked::Refused(r) => resolve::number(r),
+    }
+}
+
+fn pack_tally(n: u64, t: Tally) -> u64
+    requires { ⌜ (n ≤ 10) × (t .records ≤ 13) × (t .stores ≤ 16385) ⌝ }
+    ensures { λ r. ⌜ r ≡ n + 256 * t .records + 65536 * t .stores ⌝ }
+{
+    n + 256 * (t.records as u64) + 65536 * (t.stores as u64)
+}
+
+// A set's answer, with its counts.
+pub fn pack_changed(a: Changed) -> u64
+    requires { ⌜ Small a ⌝ }
+    ensures { λ r. ⌜ r ≡ changedPacked a ⌝ }
+{
+    match a {
+        Changed::Done(t) => pack_tally(0, t),
+        Changed::Stopped(t) => pack_tally(10, t),
+        Changed::Refused(r) => resolve::number(r),
+    }
+}
+
+// A mend's answer, with its stores.
+pub fn pack_mended(m: Mended) -> u64
+    requires { ⌜ Few m ⌝ }
+    ensures { λ r. ⌜ r ≡ mendedPacked m ⌝ }
+{
+    match m {
+        Mended::Ok(n) => 65536 * n,
+        Mended::Refused(r) => resolve::number(r),
+    }
+}
+
+// A check's answer, with what it says.
+pub fn pack_checked(k: Checked) -> u64
+    ensures { λ r. ⌜ r ≡ checkedPacked k ⌝ }
+{
+    match k {
+        Checked::Yes => 256,
+        Checked::No => 0,
+        Checked::Refused(r) => resolve::number(r),
+    }
+}
 
 // The GPI of an address.
 #[no_mangle]
@@ -21,8 +107,8 @@ pub extern "C" fn gpt_lookup(
 ) -> u64
     ensures { λ r. ⌜ r ≡ lookedPacked (lookupOf (configOf pps pgs l0gptsz flags) (now (l0 .entry)) (now (arena .entry)) base address) ⌝ }
 {
-    let c = packed::config(pps, pgs, l0gptsz, flags);
-    packed::pack_looked(gpt::lookup(c, l0, arena, PA(base), PA(address)))
+    let c = config(pps, pgs, l0gptsz, flags);
+    pack_looked(gpt::lookup(c, l0, arena, PA(base), PA(address)))
 }
 
 // The granule of an address given to another world.
@@ -41,8 +127,8 @@ pub extern "C" fn gpt_set(
 ) -> u64
     ensures { λ r. ⌜ SetLeft (setOf (configOf pps pgs l0gptsz flags) (now (l0 .entry)) (now (arena .entry)) base (now (log .entry)) address gpi) r (now (arena .exit)) (now (log .exit)) ⌝ }
 {
-    let c = packed::config(pps, pgs, l0gptsz, flags);
-    packed::pack_changed(gpt::set(c, l0, arena, PA(base), log, PA(address), gpi))
+    let c = config(pps, pgs, l0gptsz, flags);
+    pack_changed(gpt::set(c, l0, arena, PA(base), log, PA(address), gpi))
 }
 
 // The L1 table of an address made normal, at most so many words of it.
@@ -60,8 +146,8 @@ pub extern "C" fn gpt_mend(
 ) -> u64
     ensures { λ r. ⌜ MendLeft (mendOf (configOf pps pgs l0gptsz flags) (now (l0 .entry)) (now (arena .entry)) base address limit) r (now (arena .exit)) ⌝ }
 {
-    let c = packed::config(pps, pgs, l0gptsz, flags);
-    packed::pack_mended(mend::mend(c, l0, arena, PA(base), PA(address), limit))
+    let c = config(pps, pgs, l0gptsz, flags);
+    pack_mended(mend::mend(c, l0, arena, PA(base), PA(address), limit))
 }
 
 // Whether the L1 table of an address is normal.
@@ -78,6 +164,6 @@ pub extern "C" fn gpt_check(
 ) -> u64
     ensures { λ r. ⌜ r ≡ checkedPacked (checkOf (configOf pps pgs l0gptsz flags) (now (l0 .entry)) (now (arena .entry)) base address) ⌝ }
 {
-    let c = packed::config(pps, pgs, l0gptsz, flags);
-    packed::pack_checked(mend::check(c, l0, arena, PA(base), PA(address)))
+    let c = config(pps, pgs, l0gptsz, flags);
+    pack_checked(mend::check(c, l0, arena, PA(base), PA(address)))
 }

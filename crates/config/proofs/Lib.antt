@@ -1,2 +1,4 @@
 pub mod Bounds
 pub mod Cases
+pub mod Geometry
+pub mod IndexCases

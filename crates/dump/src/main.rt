@@ -1,4 +1,4 @@
-// The dump: an image on standard input, its text on standard output. All of the text is made by the library `text`.
+// The dump: an image on standard input, its text on standard output. All of the text is made by the library `dump_text`.
 ghost use mathlib.Core.Path.{_≡_};
 ghost use lib.ListN.{length};
 
@@ -13,5 +13,5 @@ fn main() {
     let mut image = room();
     let n = io::read_full(0, &mut image);
     let mut out = io::large_buffer();
-    stream::print(1, &image[..n], &mut out);
+    dump_stream::print(1, &image[..n], &mut out);
 }

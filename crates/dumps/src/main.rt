@@ -22,7 +22,7 @@ fn show(path: &[u8]) {
     io::write_all(1, path);
     io::write_all(1, b"\n");
     let mut out = [0u8; 99];
-    if !stream::print(1, &image[..n], &mut out) {
+    if !dump_stream::print(1, &image[..n], &mut out) {
         io::write_all(1, b"not whole\n");
     }
 }

@@ -6,13 +6,13 @@ use mathlib.Core.List.{List, [], _∷_}
 use Prim.Native.Nat.{ℕ}
 use lib.ListN.{replicate, set}
 use Rattle.gpi.specs.declared.Gpi.the-variants.{NonSecure, Root, Realm}
-use Rattle.nibbles.specs.Nibs.{nibs}
+use Rattle.granules.specs.Nibs.{nibs}
 use Rattle.l0.specs.L0.{l0Of}
-use Rattle.words.specs.L1.{l1Of}
+use Rattle.l1.specs.L1.{l1Of}
 use Rattle.config.specs.declared.Config.{Config}
 use Rattle.config.specs.Fields.{configuredOf}
-use Rattle.refusals.specs.Refusals.{arenaBad, outside}
-use Rattle.place.specs.Place.{siteOf, located, placeOf}
+use Rattle.resolve.specs.Refusals.{arenaBad, outside}
+use Rattle.resolve.specs.Place.{siteOf, located, placeOf}
 use Rattle.gpt.specs.declared.Looked.{Looked}
 use Rattle.gpt.specs.declared.Looked.the-variants.{Ok}
 use Rattle.gpt.specs.Lookup.{lookedNumber, lookedGpi, lookedAt, lookupOf}

@@ -10,11 +10,11 @@ use Rattle.gpi.specs.declared.Nibble.the-variants.{Known}
 use Rattle.pa.specs.Pa.{pa}
 use Rattle.config.specs.declared.Config.{Config}
 use Rattle.config.specs.Fields.{supportedOf}
-use Rattle.refusals.specs.declared.Call.the-variants.{Plain}
-use Rattle.place.specs.declared.Site.{Site}
-use Rattle.place.specs.declared.Place.{Place}
-use Rattle.place.specs.declared.Place.the-variants.{No, Block, Table}
-use Rattle.place.specs.Place.{placeOf}
+use Rattle.resolve.specs.declared.Call.the-variants.{Plain}
+use Rattle.resolve.specs.declared.Site.{Site}
+use Rattle.resolve.specs.declared.Place.{Place}
+use Rattle.resolve.specs.declared.Place.the-variants.{No, Block, Table}
+use Rattle.resolve.specs.Place.{placeOf}
 use Rattle.gpt.specs.declared.Looked.the-variants.{Ok}
 use Rattle.gpt.specs.Lookup.{judged, readIn, lookedAt, plain, lookupOf}
 

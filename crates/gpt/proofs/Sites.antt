@@ -9,21 +9,21 @@ use borrow.Rule.Slice.PartMut.{putMid, put-same}
 use lib.ListN.{length}
 use Rattle.gpi.specs.declared.Gpi.{Gpi}
 use Rattle.gpi.specs.Gpi.{num}
-use Rattle.tables.specs.Normal.{at, span}
-use Rattle.tables.specs.Stores.{Inside}
-use Rattle.tables.specs.Events.{stores}
-use Rattle.tables.proofs.Stores.{apply-part}
-use Rattle.tables.proofs.Set.{inside-set}
-use Rattle.words.specs.Arm.{arm}
-use Rattle.words.proofs.Arm.{arm-laws}
-use Rattle.place.specs.declared.Site.{Site}
-use Rattle.place.specs.Place.{tableOf}
-use Rattle.place.specs.Sited.{Sited}
-use Rattle.place.proofs.Promises.{table-length}
-use Rattle.sets.specs.declared.Answer.{Answer}
+use Rattle.theory.specs.Normal.{at, span}
+use Rattle.theory.specs.Stores.{Inside}
+use Rattle.theory.specs.Events.{stores}
+use Rattle.theory.proofs.Stores.{apply-part}
+use Rattle.theory.proofs.Set.{inside-set}
+use Rattle.l1.specs.Arm.{arm}
+use Rattle.l1.proofs.Arm.{arm-laws}
+use Rattle.resolve.specs.declared.Site.{Site}
+use Rattle.resolve.specs.Place.{tableOf}
+use Rattle.resolve.specs.Sited.{Sited}
+use Rattle.resolve.proofs.Promises.{table-length}
+use Rattle.set_table.specs.declared.Answer.{Answer}
 use Rattle.stores.specs.Done.{Room, fresh, Placed}
-use Rattle.sets.specs.Table.{setTableOf}
-use Rattle.sets.specs.Table.{Made as TableMade}
+use Rattle.set_table.specs.Table.{setTableOf}
+use Rattle.set_table.specs.Table.{Made as TableMade}
 use Rattle.gpt.specs.declared.Changed.{Changed}
 use Rattle.gpt.specs.Set.{Made, changedBy, jobOf, siteEvents, siteSet}
 

@@ -8,17 +8,17 @@ use Rattle.gpi.specs.declared.Gpi.{Gpi}
 use Rattle.gpi.specs.declared.Nibble.{Nibble}
 use Rattle.gpi.specs.declared.Nibble.the-variants.{Known, Reserved}
 use Rattle.gpi.specs.Gpi.{num}
-use Rattle.words.specs.L1.{readAt}
+use Rattle.l1.specs.L1.{readAt}
 use Rattle.config.specs.declared.Config.{Config}
 use Rattle.config.specs.Fields.{supportedOf}
-use Rattle.place.specs.declared.Ask.{Ask}
-use Rattle.place.specs.declared.Place.{Place}
-use Rattle.place.specs.declared.Place.the-variants.{No, Block, Table}
-use Rattle.refusals.specs.declared.Refusal.{Refusal}
-use Rattle.refusals.specs.declared.Refusal.the-variants.{InvalidL0Entry, InvalidL1Entry}
-use Rattle.place.specs.declared.Site.{Site}
-use Rattle.refusals.specs.Refusals.{refusalNumber}
-use Rattle.place.specs.Place.{placeOf, seeking, tableOf}
+use Rattle.resolve.specs.declared.Ask.{Ask}
+use Rattle.resolve.specs.declared.Place.{Place}
+use Rattle.resolve.specs.declared.Place.the-variants.{No, Block, Table}
+use Rattle.resolve.specs.declared.Refusal.{Refusal}
+use Rattle.resolve.specs.declared.Refusal.the-variants.{InvalidL0Entry, InvalidL1Entry}
+use Rattle.resolve.specs.declared.Site.{Site}
+use Rattle.resolve.specs.Refusals.{refusalNumber}
+use Rattle.resolve.specs.Place.{placeOf, seeking, tableOf}
 use Rattle.gpt.specs.declared.Looked.{Looked}
 use Rattle.gpt.specs.declared.Looked.the-variants.{Ok, Refused}
 

@@ -10,25 +10,25 @@ use Rattle.gpi.specs.declared.Nibble.{Nibble}
 use Rattle.gpi.specs.declared.Nibble.the-variants.{Known, Reserved}
 use Rattle.gpi.specs.Gpi.{num, gpiAt}
 use Rattle.pa.specs.Pa.{pa}
-use Rattle.tables.specs.Normal.{at}
-use Rattle.tables.specs.Stores.{apply, shifted}
-use Rattle.tables.specs.Events.{Event, stores, logged}
-use Rattle.tables.specs.Set.{fusing}
-use Rattle.words.specs.Arm.{arm}
+use Rattle.theory.specs.Normal.{at}
+use Rattle.theory.specs.Stores.{apply, shifted}
+use Rattle.theory.specs.Events.{Event, stores, logged}
+use Rattle.theory.specs.Set.{fusing}
+use Rattle.l1.specs.Arm.{arm}
 use Rattle.config.specs.declared.Config.{Config}
-use Rattle.place.specs.declared.Ask.{Ask}
-use Rattle.refusals.specs.declared.Call.the-variants.{Set}
-use Rattle.place.specs.declared.Site.{Site}
-use Rattle.place.specs.declared.Place.{Place}
-use Rattle.place.specs.declared.Place.the-variants.{No, Block, Table}
-use Rattle.refusals.specs.declared.Refusal.{Refusal}
-use Rattle.refusals.specs.declared.Refusal.the-variants.{InvalidRequest, InvalidL1Entry}
-use Rattle.refusals.specs.Refusals.{refusalNumber}
-use Rattle.place.specs.Place.{placeOf, tableOf}
+use Rattle.resolve.specs.declared.Ask.{Ask}
+use Rattle.resolve.specs.declared.Call.the-variants.{Set}
+use Rattle.resolve.specs.declared.Site.{Site}
+use Rattle.resolve.specs.declared.Place.{Place}
+use Rattle.resolve.specs.declared.Place.the-variants.{No, Block, Table}
+use Rattle.resolve.specs.declared.Refusal.{Refusal}
+use Rattle.resolve.specs.declared.Refusal.the-variants.{InvalidRequest, InvalidL1Entry}
+use Rattle.resolve.specs.Refusals.{refusalNumber}
+use Rattle.resolve.specs.Place.{placeOf, tableOf}
 use Rattle.stores.specs.declared.Job.{Job}
-use Rattle.sets.specs.declared.Answer.{Answer}
-use Rattle.sets.specs.declared.Answer.the-variants.{Done as Finished, Stopped as Cut, Invalid}
-use Rattle.sets.specs.Table.{answerOf, tallyOf, eventsOf}
+use Rattle.set_table.specs.declared.Answer.{Answer}
+use Rattle.set_table.specs.declared.Answer.the-variants.{Done as Finished, Stopped as Cut, Invalid}
+use Rattle.set_table.specs.Table.{answerOf, tallyOf, eventsOf}
 use Rattle.gpt.specs.declared.Changed.{Changed}
 use Rattle.gpt.specs.declared.Changed.the-variants.{Done, Stopped, Refused}
 
@@ -79,7 +79,7 @@ abbrev pub siteEvents : Site → ℕ → Gpi → List ℕ → List Event
 siteEvents s x g A = eventsOf (jobOf s x g) (tableOf s A)
 
 -- "the shattered words and the new granule stored", then what is fused, made where the table stands in the arena; the log with their records
--- over its front. Under refusal 10 the events end before the fuse (`fused` of the crate `tables`).
+-- over its front. Under refusal 10 the events end before the fuse (`fused` of the crate `theory`).
 unfoldable pub siteSet : Site → ℕ → Gpi → List ℕ → List ℕ → Outcome
 siteSet s x g A L =
     cond (arm .valid (at (tableOf s A) (s .index)))

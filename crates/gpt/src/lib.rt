@@ -2,20 +2,20 @@
 ghost use mathlib.Core.Path.{_≡_};
 ghost use Prim.Native.Nat.{_≤_, _<_};
 ghost use lib.ListN.{length, getD};
-ghost use Rattle.words.specs.L1.{readAt};
-ghost use Rattle.place.specs.Sited.{Sited};
+ghost use Rattle.l1.specs.L1.{readAt};
+ghost use Rattle.resolve.specs.Sited.{Sited};
 ghost use Rattle.gpt.specs.Lookup.{granted, judged, lookupOf};
 ghost use Rattle.gpt.specs.Set.{Made, changedBy, siteSet, setOf};
 use config::Config;
 use gpi::Gpi;
 use gpi::Nibble;
 use pa::PA;
-use place::Ask;
-use place::Place;
-use place::Site;
-use refusals::Call;
-use refusals::Refusal;
-use sets::Answer;
+use resolve::Ask;
+use resolve::Call;
+use resolve::Place;
+use resolve::Refusal;
+use resolve::Site;
+use set_table::Answer;
 use stores::Job;
 use stores::Tally;
 
@@ -41,7 +41,7 @@ fn judge(c: Config, w: u64, k: u64) -> Looked
     requires { ⌜ k < 16 ⌝ }
     ensures { λ r. ⌜ r ≡ judged c (readAt w k) ⌝ }
 {
-    match words::read(w, k) {
+    match l1::read(w, k) {
         Nibble::Known(g) => grant(c, g, Refusal::InvalidL1Entry),
         Nibble::Reserved => Looked::Refused(Refusal::InvalidL1Entry),
     }
@@ -60,7 +60,7 @@ fn read_table(c: Config, table: &[u64], i: usize, k: u64) -> Looked
 pub fn lookup(c: Config, l0: &[u64], arena: &[u64], base: PA, address: PA) -> Looked
     ensures { λ r. ⌜ r ≡ lookupOf c (now (l0 .entry)) (now (arena .entry)) (base .0) (address .0) ⌝ }
 {
-    match place::find(l0, c, arena.len(), base, address) {
+    match resolve::find(l0, c, arena.len(), base, address) {
         Place::No(r) => Looked::Refused(r),
         Place::Block(g) => grant(c, g, Refusal::InvalidL0Entry),
         Place::Table(s) => {
@@ -105,7 +105,7 @@ fn set_site(arena: &mut [u64], log: &mut [u64], s: Site, address: PA, g: Gpi) ->
         address,
         grain: s.grain,
     };
-    let a = sets::set_table(&mut arena[o..end], log, q);
+    let a = set_table::set_table(&mut arena[o..end], log, q);
     changed_by(a)
 }
 
@@ -129,7 +129,7 @@ pub fn set(
         address,
         call: Call::Set(log.len(), n),
     };
-    match place::resolve(l0, q) {
+    match resolve::resolve(l0, q) {
         Place::No(r) => Changed::Refused(r),
         Place::Block(_) => Changed::Refused(Refusal::InvalidRequest),
         Place::Table(s) => match n {

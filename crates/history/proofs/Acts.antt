@@ -13,26 +13,26 @@ use Rattle.gpi.specs.declared.Nibble.{Nibble}
 use Rattle.gpi.specs.declared.Nibble.the-variants.{Known}
 use Rattle.gpi.specs.Gpi.{num, gpiAt}
 use Rattle.gpi.proofs.Rules.{gpi-num}
-use Rattle.tables.specs.Normal.{at}
-use Rattle.tables.specs.Stores.{apply, cut}
-use Rattle.tables.specs.Events.{stores}
-use Rattle.tables.specs.Moves.{laid, Target, targetStores, Aimed as TableAimed}
-use Rattle.tables.proofs.Stores.{apply-part}
-use Rattle.tables.proofs.Set.{inside-set}
-use Rattle.words.specs.Arm.{arm}
-use Rattle.words.proofs.Arm.{arm-laws}
+use Rattle.theory.specs.Normal.{at}
+use Rattle.theory.specs.Stores.{apply, cut}
+use Rattle.theory.specs.Events.{stores}
+use Rattle.theory.specs.Moves.{laid, Target, targetStores, Aimed as TableAimed}
+use Rattle.theory.proofs.Stores.{apply-part}
+use Rattle.theory.proofs.Set.{inside-set}
+use Rattle.l1.specs.Arm.{arm}
+use Rattle.l1.proofs.Arm.{arm-laws}
 use Rattle.config.specs.declared.Configured.the-variants.{Ok as Configured}
 use Rattle.config.specs.Fields.{configuredOf, supportedOf}
-use Rattle.place.specs.declared.Place.the-variants.{Table}
-use Rattle.place.specs.declared.Site.{Site}
-use Rattle.place.specs.Place.{placeOf, siteOf, tableOf}
-use Rattle.place.specs.Sited.{Sited}
-use Rattle.place.proofs.Promises.{neighbour, table-length, gpi-taken}
+use Rattle.resolve.specs.declared.Place.the-variants.{Table}
+use Rattle.resolve.specs.declared.Site.{Site}
+use Rattle.resolve.specs.Place.{placeOf, siteOf, tableOf}
+use Rattle.resolve.specs.Sited.{Sited}
+use Rattle.resolve.proofs.Promises.{neighbour, table-length, gpi-taken}
 use Rattle.gpt.specs.Set.{changedNumber, siteEvents, asking}
 use Rattle.history.specs.History.{Lent, placed, Request, sets, cuts, change, acted}
-use Rattle.promises.specs.Demand3.{Answers0or10}
-use Rattle.promises.proofs.Happened.{At, happened}
-use Rattle.promises.proofs.Told.{cut-is}
+use Rattle.cut_and_mend.specs.Demand3.{Answers0or10}
+use Rattle.cut_and_mend.proofs.Happened.{At, happened}
+use Rattle.cut_and_mend.proofs.Told.{cut-is}
 use Rattle.history.proofs.Parts.{part, settled, found}
 
 -- what is known of a set that answers 0 or 10: its site, its GPI

@@ -13,36 +13,36 @@ use lib.ListN.{length, take}
 use Rattle.gpi.specs.declared.Gpi.{Gpi}
 use Rattle.gpi.specs.declared.Size.the-variants.{MB2}
 use Rattle.gpi.specs.Gpi.{gpiAt}
-use Rattle.tables.specs.Format.{reading}
-use Rattle.tables.specs.Normal.{at}
-use Rattle.tables.specs.Mend.{mend}
-use Rattle.tables.specs.Set.{lead}
-use Rattle.tables.specs.Whole.{Whole}
-use Rattle.tables.specs.Moves.{Part, tableAt, laid, Target, Ideal, updated, Move, move}
-use Rattle.tables.specs.Moves.{Act as TableAct, sets as tableSets, cuts as tableCuts, mends as tableMends, acted as tableActed, actMark, actIdeal as tableIdeal, May as TableMay, State as Tables, Kept as TablesKept}
-use Rattle.tables.proofs.Moves.{length-move, move-kept}
-use Rattle.words.specs.Arm.{arm}
-use Rattle.words.proofs.Arm.{arm-laws}
+use Rattle.theory.specs.Format.{reading}
+use Rattle.theory.specs.Normal.{at}
+use Rattle.theory.specs.Mend.{mend}
+use Rattle.theory.specs.Set.{lead}
+use Rattle.theory.specs.Whole.{Whole}
+use Rattle.theory.specs.Moves.{Part, tableAt, laid, Target, Ideal, updated, Move, move}
+use Rattle.theory.specs.Moves.{Act as TableAct, sets as tableSets, cuts as tableCuts, mends as tableMends, acted as tableActed, actMark, actIdeal as tableIdeal, May as TableMay, State as Tables, Kept as TablesKept}
+use Rattle.theory.proofs.Moves.{length-move, move-kept}
+use Rattle.l1.specs.Arm.{arm}
+use Rattle.l1.proofs.Arm.{arm-laws}
 use Rattle.config.specs.declared.Configured.the-variants.{Ok as Configured}
 use Rattle.config.specs.Fields.{configuredOf}
-use Rattle.index.specs.Index.{l0Index, l1Words, granuleBytes}
-use Rattle.index.proofs.Geometry.{words-least}
-use Rattle.place.specs.declared.Place.{Place}
-use Rattle.place.specs.declared.Place.the-variants.{No, Block, Table}
-use Rattle.refusals.specs.declared.Refusal.{Refusal}
-use Rattle.refusals.specs.declared.Refusal.the-variants.{InvalidRequest}
-use Rattle.place.specs.declared.Site.{Site}
-use Rattle.refusals.specs.Refusals.{refusalNumber}
-use Rattle.place.specs.Place.{siteOf, tableOf}
-use Rattle.refusals.proofs.Numbers.{refusal-number}
-use Rattle.place.proofs.Granules.{same-granule, same-indices}
+use Rattle.config.specs.Index.{l0Index, l1Words, granuleBytes}
+use Rattle.config.proofs.Geometry.{words-least}
+use Rattle.resolve.specs.declared.Place.{Place}
+use Rattle.resolve.specs.declared.Place.the-variants.{No, Block, Table}
+use Rattle.resolve.specs.declared.Refusal.{Refusal}
+use Rattle.resolve.specs.declared.Refusal.the-variants.{InvalidRequest}
+use Rattle.resolve.specs.declared.Site.{Site}
+use Rattle.resolve.specs.Refusals.{refusalNumber}
+use Rattle.resolve.specs.Place.{siteOf, tableOf}
+use Rattle.resolve.proofs.Numbers.{refusal-number}
+use Rattle.resolve.proofs.Granules.{same-granule, same-indices}
 use Rattle.gpt.specs.declared.Looked.the-variants.{Ok}
 use Rattle.gpt.specs.Lookup.{plain}
 use Rattle.mend.specs.declared.Mended.the-variants.{Refused}
 use Rattle.mend.specs.Outcome.{Outcome, mendedNumber, mendedAt, mendOf}
 use Rattle.history.specs.History.{Lent, placed, look, Request, Act, sets, cuts, mends, acted, made, State, start, act, acts, Aimed, May, Allowed, Ready, Kept}
 use Rattle.history.proofs.Parts.{part, parts, unit, listed, found, granule-below, nearby, site-words, site-unit, site-index, site-granule, parts-is, parts-apart, parts-whole, same-place, look-same, look-new}
-use Rattle.promises.proofs.Told.{lead-is}
+use Rattle.cut_and_mend.proofs.Told.{lead-is}
 use Rattle.history.proofs.Acts.{Taken, target, set-is, set-arena, cut-arena, aimed}
 
 -- ---- the theory's ideal, at the target and elsewhere

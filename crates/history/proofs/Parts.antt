@@ -18,29 +18,29 @@ use Rattle.gpi.specs.declared.Size.the-variants.{MB2}
 use Rattle.gpi.specs.Gpi.{num, gpiAt}
 use Rattle.gpi.proofs.Rules.{gpi-num, num-lt}
 use Rattle.pa.specs.Pa.{pa}
-use Rattle.tables.specs.Format.{reading}
-use Rattle.tables.specs.Normal.{at, span}
-use Rattle.tables.specs.Whole.{Whole}
-use Rattle.tables.specs.Moves.{Part, tableAt, Apart, Parts}
-use Rattle.nibbles.specs.Nibs.{nib}
-use Rattle.words.specs.declared.L1Entry.{L1Entry}
-use Rattle.words.specs.declared.L1Entry.the-variants.{Contiguous, Granules, Invalid}
-use Rattle.words.specs.L1.{l1Of, readOf, readAt, flatOf}
-use Rattle.words.specs.Arm.{arm, validOf}
-use Rattle.nibbles.proofs.Packed.{nib-repeated}
+use Rattle.theory.specs.Format.{reading}
+use Rattle.theory.specs.Normal.{at, span}
+use Rattle.theory.specs.Whole.{Whole}
+use Rattle.theory.specs.Moves.{Part, tableAt, Apart, Parts}
+use Rattle.granules.specs.Nibs.{nib}
+use Rattle.l1.specs.declared.L1Entry.{L1Entry}
+use Rattle.l1.specs.declared.L1Entry.the-variants.{Contiguous, Granules, Invalid}
+use Rattle.l1.specs.L1.{l1Of, readOf, readAt, flatOf}
+use Rattle.l1.specs.Arm.{arm, validOf}
+use Rattle.granules.proofs.Packed.{nib-repeated}
 use Rattle.config.specs.declared.Widths.{Widths}
 use Rattle.config.specs.declared.Configured.the-variants.{Ok as Configured}
 use Rattle.config.specs.Fields.{Listed, configuredOf, supportedOf}
-use Rattle.index.specs.Index.{l0Index, l1Words, l1Index, granuleIndex, granuleBytes, sizeWords}
+use Rattle.config.specs.Index.{l0Index, l1Words, l1Index, granuleIndex, granuleBytes, sizeWords}
 use Rattle.config.proofs.Bounds.{listed-widths}
-use Rattle.place.specs.declared.Ask.{Ask}
-use Rattle.refusals.specs.declared.Call.the-variants.{Plain}
-use Rattle.place.specs.declared.Place.{Place}
-use Rattle.place.specs.declared.Place.the-variants.{No, Block, Table}
-use Rattle.place.specs.declared.Site.{Site}
-use Rattle.place.specs.Place.{placeOf, siteOf}
-use Rattle.place.specs.Sited.{Sited, Resolved}
-use Rattle.place.proofs.Promises.{resolved, neighbour, table-word}
+use Rattle.resolve.specs.declared.Ask.{Ask}
+use Rattle.resolve.specs.declared.Call.the-variants.{Plain}
+use Rattle.resolve.specs.declared.Place.{Place}
+use Rattle.resolve.specs.declared.Place.the-variants.{No, Block, Table}
+use Rattle.resolve.specs.declared.Site.{Site}
+use Rattle.resolve.specs.Place.{placeOf, siteOf}
+use Rattle.resolve.specs.Sited.{Sited, Resolved}
+use Rattle.resolve.proofs.Promises.{resolved, neighbour, table-word}
 use Rattle.gpt.specs.declared.Looked.the-variants.{Ok}
 use Rattle.gpt.specs.Lookup.{plain, readIn}
 use Rattle.gpt.proofs.Reading.{same-answer, answers}

@@ -10,28 +10,28 @@ use lib.ListN.{length, getD, take, length-replicate, getD-replicate}
 use Rattle.gpi.specs.declared.Gpi.the-variants.{Root, Realm}
 use Rattle.pa.specs.declared.PA.{PA}
 use Rattle.pa.specs.Pa.{pa}
-use Rattle.tables.specs.Format.{gpi}
-use Rattle.tables.specs.Normal.{at, span}
-use Rattle.tables.specs.Whole.{Whole}
-use Rattle.tables.proofs.Ranges.{in-table}
+use Rattle.theory.specs.Format.{gpi}
+use Rattle.theory.specs.Normal.{at, span}
+use Rattle.theory.specs.Whole.{Whole}
+use Rattle.theory.proofs.Ranges.{in-table}
 use Rattle.l0.specs.declared.L0Entry.the-variants.{Table as TableWord}
 use Rattle.l0.specs.L0.{l0Of}
-use Rattle.words.specs.Arm.{arm}
-use Rattle.words.proofs.Arm.{arm-laws}
+use Rattle.l1.specs.Arm.{arm}
+use Rattle.l1.proofs.Arm.{arm-laws}
 use Rattle.config.specs.declared.Configured.the-variants.{Ok as Configured}
 use Rattle.config.specs.Fields.{configuredOf}
-use Rattle.index.specs.Index.{l0Index}
-use Rattle.index.proofs.Geometry.{l0-in}
-use Rattle.place.specs.declared.Place.the-variants.{Table}
-use Rattle.place.specs.declared.Site.{Site}
-use Rattle.place.specs.Place.{tableOf}
-use Rattle.place.specs.Sited.{Sited}
-use Rattle.place.proofs.Promises.{table-length, table-word}
+use Rattle.config.specs.Index.{l0Index}
+use Rattle.config.proofs.Geometry.{l0-in}
+use Rattle.resolve.specs.declared.Place.the-variants.{Table}
+use Rattle.resolve.specs.declared.Site.{Site}
+use Rattle.resolve.specs.Place.{tableOf}
+use Rattle.resolve.specs.Sited.{Sited}
+use Rattle.resolve.proofs.Promises.{table-length, table-word}
 use Rattle.gpt.specs.declared.Looked.the-variants.{Ok}
-use Rattle.promises.specs.Cases.{fields, l0, arena, log}
+use Rattle.outcomes.specs.Cases.{fields, l0, arena, log}
 use Rattle.history.specs.History.{Lent, placed, look, Act, sets, cuts, mends, start, act, acts, Allowed, Ready, Kept}
-use Rattle.promises.specs.Demand3.{answers-0, storesBefore}
-use Rattle.promises.proofs.Starred.{opened, starred}
+use Rattle.cut_and_mend.specs.Demand3.{answers-0, storesBefore}
+use Rattle.outcomes.proofs.Starred.{opened, starred}
 use Rattle.history.proofs.Parts.{listed, found}
 use Rattle.history.proofs.History.{history}
 

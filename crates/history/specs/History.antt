@@ -11,21 +11,21 @@ use lib.Dec.{eqb, ltb}
 use Rattle.gpi.specs.declared.Nibble.{Nibble}
 use Rattle.gpi.specs.declared.Nibble.the-variants.{Known, Reserved}
 use Rattle.gpi.specs.Gpi.{gpiAt}
-use Rattle.tables.specs.Whole.{Whole}
-use Rattle.words.specs.Arm.{arm}
+use Rattle.theory.specs.Whole.{Whole}
+use Rattle.l1.specs.Arm.{arm}
 use Rattle.config.specs.declared.Config.{Config}
 use Rattle.config.specs.declared.Widths.{Widths}
-use Rattle.index.specs.Index.{l0Index, l1Words, granuleBytes}
-use Rattle.place.specs.declared.Place.{Place}
-use Rattle.place.specs.declared.Place.the-variants.{Table}
-use Rattle.place.specs.declared.Site.{Site}
-use Rattle.place.specs.Place.{placeOf, tableOf}
+use Rattle.config.specs.Index.{l0Index, l1Words, granuleBytes}
+use Rattle.resolve.specs.declared.Place.{Place}
+use Rattle.resolve.specs.declared.Place.the-variants.{Table}
+use Rattle.resolve.specs.declared.Site.{Site}
+use Rattle.resolve.specs.Place.{placeOf, tableOf}
 use Rattle.gpt.specs.declared.Looked.{Looked}
 use Rattle.gpt.specs.declared.Looked.the-variants.{Ok}
 use Rattle.gpt.specs.Lookup.{plain, lookupOf}
 use Rattle.gpt.specs.Set.{Outcome, setOf, changedNumber}
 use Rattle.mend.specs.Outcome.{mendOf, mendedNumber}
-use Rattle.promises.specs.Demand3.{Answers0or10, cutArena, granuleStoreAfter}
+use Rattle.cut_and_mend.specs.Demand3.{Answers0or10, cutArena, granuleStoreAfter}
 
 -- what stays: the configuration and the widths that it means, the lent L0 words, the arena's base
 pub record Lent : Type 0 where

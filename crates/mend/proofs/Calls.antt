@@ -8,28 +8,28 @@ use native.Mathlib.Omega.{arith}
 use borrow.Rule.Slice.PartMut.{same-len-mid, put-same, take-put}
 use lib.ListN.{length, take, drop}
 use lib.Seq.{length-take-le, take-at, drop-at}
-use Rattle.tables.specs.Normal.{normal}
-use Rattle.tables.specs.Mend.{mend, mends}
-use Rattle.tables.proofs.Lists.{map-length}
-use Rattle.tables.proofs.Normal.{length-normal, normal-normal}
-use Rattle.tables.proofs.Mend.{length-mend, flat-mends, mends-then}
-use Rattle.words.specs.L1.{flat}
-use Rattle.words.specs.Arm.{arm}
-use Rattle.words.proofs.Arm.{arm-laws}
+use Rattle.theory.specs.Normal.{normal}
+use Rattle.theory.specs.Mend.{mend, mends}
+use Rattle.theory.proofs.Lists.{map-length}
+use Rattle.theory.proofs.Normal.{length-normal, normal-normal}
+use Rattle.theory.proofs.Mend.{length-mend, flat-mends, mends-then}
+use Rattle.l1.specs.L1.{flat}
+use Rattle.l1.specs.Arm.{arm}
+use Rattle.l1.proofs.Arm.{arm-laws}
 use Rattle.config.specs.declared.Config.{Config}
-use Rattle.place.specs.declared.Place.the-variants.{Table}
-use Rattle.place.specs.declared.Site.{Site}
-use Rattle.place.specs.Place.{placeOf, tableOf}
-use Rattle.place.specs.Sited.{Sited}
-use Rattle.place.proofs.Promises.{table-length}
+use Rattle.resolve.specs.declared.Place.the-variants.{Table}
+use Rattle.resolve.specs.declared.Site.{Site}
+use Rattle.resolve.specs.Place.{placeOf, tableOf}
+use Rattle.resolve.specs.Sited.{Sited}
+use Rattle.resolve.proofs.Promises.{table-length}
 use Rattle.pa.specs.Pa.{pa}
-use Rattle.refusals.specs.declared.Call.the-variants.{Plain}
+use Rattle.resolve.specs.declared.Call.the-variants.{Plain}
 use Rattle.gpt.specs.Lookup.{plain}
 use Rattle.mend.specs.declared.Checked.the-variants.{Yes}
-use Rattle.normal.specs.Normal.{isNormal}
+use Rattle.mend_table.specs.Normal.{isNormal}
 use Rattle.mend.specs.Outcome.{withTable, mendedNumber, checkedYes, mendedAt, mendOf, verdict, checkedAt, checkOf, mendsOf}
 use Rattle.mend.proofs.Sites.{sited}
-use Rattle.normal.proofs.Yes.{normal-yes, yes-the-one}
+use Rattle.mend_table.proofs.Yes.{normal-yes, yes-the-one}
 
 -- ---- an arena with another table in a table's place
 

@@ -6,20 +6,20 @@ use mathlib.Core.Bool.{Bool, true, false}
 use mathlib.Core.List.{List, [], _∷_}
 use Prim.Native.Nat.{ℕ}
 use lib.ListN.{replicate}
-use Rattle.tables.specs.Format.{reads}
-use Rattle.tables.specs.Normal.{span, every, alike, widest, capped}
-use Rattle.tables.specs.Stores.{apply}
-use Rattle.tables.specs.Mend.{repairs, mending, mend, mendCount}
-use Rattle.nibbles.specs.Nibs.{nibs}
+use Rattle.theory.specs.Format.{reads}
+use Rattle.theory.specs.Normal.{span, every, alike, widest, capped}
+use Rattle.theory.specs.Stores.{apply}
+use Rattle.theory.specs.Mend.{repairs, mending, mend, mendCount}
+use Rattle.granules.specs.Nibs.{nibs}
 use Rattle.l0.specs.L0.{l0Of}
-use Rattle.words.specs.L1.{l1Of}
-use Rattle.words.specs.Arm.{arm}
+use Rattle.l1.specs.L1.{l1Of}
+use Rattle.l1.specs.Arm.{arm}
 use Rattle.config.specs.declared.Config.{Config}
 use Rattle.config.specs.Fields.{configuredOf}
-use Rattle.refusals.specs.Refusals.{arenaBad, outside}
-use Rattle.place.specs.Place.{siteOf, located, placeOf}
+use Rattle.resolve.specs.Refusals.{arenaBad, outside}
+use Rattle.resolve.specs.Place.{siteOf, located, placeOf}
 use Rattle.mend.specs.declared.Mended.{Mended}
-use Rattle.normal.specs.Normal.{isNormal}
+use Rattle.mend_table.specs.Normal.{isNormal}
 use Rattle.mend.specs.Outcome.{mendedNumber, mendedStores, checkedNumber, checkedYes, mendedAt, mendOf, checkedAt, checkOf}
 
 -- what must open for a mend and a check to be computed

@@ -4,20 +4,20 @@ use mathlib.Core.Path.{_≡_, refl, sym, ap, _∙_}
 use mathlib.Core.List.{List, [], _∷_, map, map-append}
 use Prim.Native.Nat.{ℕ, _+_, _<_}
 use borrow.Rule.Slice.PartMut.{put-same}
-use Rattle.tables.specs.Normal.{at}
-use Rattle.tables.specs.Mend.{mend}
-use Rattle.tables.proofs.Lists.{map-at, map-length}
-use Rattle.tables.proofs.Mend.{flat-mend}
-use Rattle.words.specs.L1.{readAt, flat}
-use Rattle.words.specs.Arm.{arm}
-use Rattle.words.proofs.Alike.{flat-reads}
-use Rattle.words.proofs.Arm.{arm-laws}
+use Rattle.theory.specs.Normal.{at}
+use Rattle.theory.specs.Mend.{mend}
+use Rattle.theory.proofs.Lists.{map-at, map-length}
+use Rattle.theory.proofs.Mend.{flat-mend}
+use Rattle.l1.specs.L1.{readAt, flat}
+use Rattle.l1.specs.Arm.{arm}
+use Rattle.l1.proofs.Alike.{flat-reads}
+use Rattle.l1.proofs.Arm.{arm-laws}
 use Rattle.config.specs.declared.Config.{Config}
-use Rattle.place.specs.declared.Place.{Place}
-use Rattle.place.specs.declared.Place.the-variants.{No as Nowhere, Block, Table}
-use Rattle.place.specs.declared.Site.{Site}
-use Rattle.place.specs.Place.{placeOf, tableOf}
-use Rattle.place.proofs.Promises.{table-word}
+use Rattle.resolve.specs.declared.Place.{Place}
+use Rattle.resolve.specs.declared.Place.the-variants.{No as Nowhere, Block, Table}
+use Rattle.resolve.specs.declared.Site.{Site}
+use Rattle.resolve.specs.Place.{placeOf, tableOf}
+use Rattle.resolve.proofs.Promises.{table-word}
 use Rattle.gpt.specs.Lookup.{plain, readIn, lookupOf}
 use Rattle.gpt.proofs.Reading.{same-answer}
 use Rattle.mend.specs.Outcome.{withTable, mendedAt, mendOf, mendsOf}

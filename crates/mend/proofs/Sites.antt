@@ -6,23 +6,23 @@ use mathlib.Core.List.{List}
 use Prim.Native.Nat.{ℕ}
 use lib.ListN.{length}
 use Rattle.gpi.specs.declared.Gpi.{Gpi}
-use Rattle.words.specs.Arm.{arm}
+use Rattle.l1.specs.Arm.{arm}
 use Rattle.config.specs.declared.Config.{Config}
-use Rattle.place.specs.declared.Place.the-variants.{No as Nowhere, Block, Table}
-use Rattle.refusals.specs.declared.Refusal.{Refusal}
-use Rattle.refusals.specs.declared.Refusal.the-variants.{InvalidRequest}
-use Rattle.place.specs.declared.Site.{Site}
-use Rattle.place.specs.Place.{placeOf, tableOf}
-use Rattle.place.specs.Sited.{Sited}
-use Rattle.place.proofs.Promises.{resolved, table-length}
+use Rattle.resolve.specs.declared.Place.the-variants.{No as Nowhere, Block, Table}
+use Rattle.resolve.specs.declared.Refusal.{Refusal}
+use Rattle.resolve.specs.declared.Refusal.the-variants.{InvalidRequest}
+use Rattle.resolve.specs.declared.Site.{Site}
+use Rattle.resolve.specs.Place.{placeOf, tableOf}
+use Rattle.resolve.specs.Sited.{Sited}
+use Rattle.resolve.proofs.Promises.{resolved, table-length}
 use Rattle.gpt.specs.Lookup.{plain}
 use Rattle.mend.specs.declared.Mended.the-variants.{Ok, Refused}
 use Rattle.mend.specs.declared.Checked.{Checked}
 use Rattle.mend.specs.declared.Checked.the-variants.{Refused as Denied}
-use Rattle.normal.specs.Normal.{isNormal}
+use Rattle.mend_table.specs.Normal.{isNormal}
 use Rattle.mend.specs.Outcome.{withTable, Left, mendedAt, mendOf, verdict, checkedAt, checkOf}
-use Rattle.ranges.specs.Ranges.{Regions}
-use Rattle.repair.specs.Mends.{Repaired}
+use Rattle.mend_table.specs.Ranges.{Regions}
+use Rattle.mend_table.specs.Mends.{Repaired}
 
 pub site-regions : (A : List ℕ) (s : Site) → Sited (length A) s → Regions (s .unit) (tableOf s A)
 site-regions A s h = record { some = h .unit-least; few = h .unit-most; regions = h .regions .0; whole = table-length A s h ∙ h .regions .1 }

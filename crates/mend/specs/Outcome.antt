@@ -6,21 +6,21 @@ use mathlib.Core.Bool.{Bool, true, false}
 use mathlib.Core.List.{List, [], _∷_, _++_}
 use Prim.Native.Nat.{ℕ}
 use lib.ListN.{take, drop}
-use Rattle.tables.specs.Mend.{mend, mendCount}
-use Rattle.words.specs.Arm.{arm}
+use Rattle.theory.specs.Mend.{mend, mendCount}
+use Rattle.l1.specs.Arm.{arm}
 use Rattle.config.specs.declared.Config.{Config}
-use Rattle.place.specs.declared.Place.{Place}
-use Rattle.place.specs.declared.Place.the-variants.{No as Nowhere, Block, Table}
-use Rattle.refusals.specs.declared.Refusal.the-variants.{InvalidRequest}
-use Rattle.place.specs.declared.Site.{Site}
-use Rattle.refusals.specs.Refusals.{refusalNumber}
-use Rattle.place.specs.Place.{placeOf, tableOf}
+use Rattle.resolve.specs.declared.Place.{Place}
+use Rattle.resolve.specs.declared.Place.the-variants.{No as Nowhere, Block, Table}
+use Rattle.resolve.specs.declared.Refusal.the-variants.{InvalidRequest}
+use Rattle.resolve.specs.declared.Site.{Site}
+use Rattle.resolve.specs.Refusals.{refusalNumber}
+use Rattle.resolve.specs.Place.{placeOf, tableOf}
 use Rattle.gpt.specs.Lookup.{plain}
 use Rattle.mend.specs.declared.Mended.{Mended}
 use Rattle.mend.specs.declared.Mended.the-variants.{Ok, Refused}
 use Rattle.mend.specs.declared.Checked.{Checked}
 use Rattle.mend.specs.declared.Checked.the-variants.{Yes, No, Refused as Denied}
-use Rattle.normal.specs.Normal.{isNormal}
+use Rattle.mend_table.specs.Normal.{isNormal}
 
 -- ---- the paper's numbers and values
 

@@ -3,10 +3,10 @@ ghost use mathlib.Core.Path.{_≡_};
 ghost use Rattle.mend.specs.Outcome.{Left, mendOf, verdict, checkOf};
 use config::Config;
 use pa::PA;
-use place::Ask;
-use place::Place;
-use refusals::Call;
-use refusals::Refusal;
+use resolve::Ask;
+use resolve::Call;
+use resolve::Place;
+use resolve::Refusal;
 
 // What a mend answers: the stores made, or why it is refused.
 pub enum Mended {
@@ -32,13 +32,13 @@ pub fn mend(c: Config, l0: &[u64], arena: &mut [u64], base: PA, address: PA, lim
         address,
         call: Call::Plain,
     };
-    match place::resolve(l0, q) {
+    match resolve::resolve(l0, q) {
         Place::No(r) => Mended::Refused(r),
         Place::Block(_) => Mended::Refused(Refusal::InvalidRequest),
         Place::Table(s) => {
             let o = s.start;
             let end = o + s.words;
-            Mended::Ok(repair::mend_table(&mut arena[o..end], s.unit, limit))
+            Mended::Ok(mend_table::mend_table(&mut arena[o..end], s.unit, limit))
         }
     }
 }
@@ -60,13 +60,13 @@ pub fn check(c: Config, l0: &[u64], arena: &[u64], base: PA, address: PA) -> Che
         address,
         call: Call::Plain,
     };
-    match place::resolve(l0, q) {
+    match resolve::resolve(l0, q) {
         Place::No(r) => Checked::Refused(r),
         Place::Block(_) => Checked::Refused(Refusal::InvalidRequest),
         Place::Table(s) => {
             let o = s.start;
             let end = o + s.words;
-            verdict_of(normal::check_table(&arena[o..end], s.unit))
+            verdict_of(mend_table::check_table(&arena[o..end], s.unit))
         }
     }
 }

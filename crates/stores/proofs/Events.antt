@@ -7,12 +7,12 @@ use native.Mathlib.Nat.{add-zero}
 use native.Mathlib.Omega.{arith}
 use lib.ListN.{length, length-append}
 use lib.Seq.{sets}
-use Rattle.tables.specs.Stores.{apply, fill, Inside}
-use Rattle.tables.specs.Events.{Event, filled as Filled, storesOf, stores, countOf, count, recordOf, records, logged}
-use Rattle.tables.specs.Set.{fillEvent}
-use Rattle.tables.proofs.Events.{stores-append, logged-append, length-logged}
-use Rattle.tables.proofs.Set.{count-append}
-use Rattle.tables.proofs.Stores.{each-append, each-fill, apply-append, length-apply}
+use Rattle.theory.specs.Stores.{apply, fill, Inside}
+use Rattle.theory.specs.Events.{Event, filled as Filled, storesOf, stores, countOf, count, recordOf, records, logged}
+use Rattle.theory.specs.Set.{fillEvent}
+use Rattle.theory.proofs.Events.{stores-append, logged-append, length-logged}
+use Rattle.theory.proofs.Set.{count-append}
+use Rattle.theory.proofs.Stores.{each-append, each-fill, apply-append, length-apply}
 use Rattle.stores.specs.declared.Tally.{Tally}
 use Rattle.stores.specs.Done.{Done, Room}
 

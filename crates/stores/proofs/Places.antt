@@ -6,9 +6,9 @@ use Prim.Native.Nat.{ℕ, zero, suc, _+_, _-_, _*_, _≤_, _<_}
 use native.Mathlib.Nat.{div-mul-le-self, le-trans, le-refl}
 use native.Mathlib.Omega.{arith}
 use lib.ListN.{length}
-use Rattle.tables.specs.Normal.{span, base}
-use Rattle.tables.proofs.Ranges.{span-pos, base-hi}
-use Rattle.tables.specs.Events.{Event}
+use Rattle.theory.specs.Normal.{span, base}
+use Rattle.theory.proofs.Ranges.{span-pos, base-hi}
+use Rattle.theory.specs.Events.{Event}
 use Rattle.stores.specs.declared.Tally.{Tally}
 use Rattle.stores.specs.Done.{Done, Room, Placed}
 use Rattle.stores.proofs.Events.{kept-table}

@@ -5,9 +5,9 @@ use mathlib.Core.Path.{_≡_}
 use mathlib.Core.List.{List}
 use Prim.Native.Nat.{ℕ, _+_, _*_, _≤_, _<_, _^_}
 use lib.ListN.{length}
-use Rattle.tables.specs.Normal.{span, base}
-use Rattle.tables.specs.Stores.{apply, Inside}
-use Rattle.tables.specs.Events.{Event, stores, count, logged}
+use Rattle.theory.specs.Normal.{span, base}
+use Rattle.theory.specs.Stores.{apply, Inside}
+use Rattle.theory.specs.Events.{Event, stores, count, logged}
 use Rattle.stores.specs.declared.Tally.{Tally}
 
 -- the events es of a table that stands at o in its arena happened: from the table t, the log l and the tally a to t′, l′ and b

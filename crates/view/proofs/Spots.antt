@@ -10,15 +10,15 @@ use borrow.Author.Tests.{ne-eqb, eqb-true, lt-ltb, le-ltb, ltb-true}
 use lib.Dec.{eqb, ltb, lit<}
 use lib.ListN.{length, getD}
 use lib.Pow.{shr-shr, field, mod-mod-pow}
-use Rattle.words.specs.L1.{readAt}
+use Rattle.l1.specs.L1.{readAt}
 use Rattle.config.specs.declared.Config.{Config}
 use Rattle.config.specs.declared.Width.{Width}
 use Rattle.config.specs.declared.Width.the-variants.{Bits, Unlisted}
 use Rattle.config.specs.declared.Widths.{Widths}
 use Rattle.config.specs.declared.Configured.the-variants.{Ok, InvalidConfiguration, GptNotInitialized}
 use Rattle.config.specs.Fields.{ppsWidth, pgsWidth, l0gptszWidth, listed, configuredOf, Listed}
-use Rattle.index.specs.Index.{l1Words, l1Index, granuleIndex}
-use Rattle.index.proofs.Geometry.{l1-in}
+use Rattle.config.specs.Index.{l1Words, l1Index, granuleIndex}
+use Rattle.config.proofs.Geometry.{l1-in}
 use Rattle.view.specs.declared.Spot.the-variants.{At, Outside}
 use Rattle.view.specs.Reads.{isWidth, spotOf, heldBy, held, heldAt}
 

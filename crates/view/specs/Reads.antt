@@ -7,7 +7,7 @@ use lib.Dec.{eqb, ltb}
 use lib.ListN.{length, getD}
 use Rattle.gpi.specs.declared.Nibble.{Nibble}
 use Rattle.gpi.specs.declared.Nibble.the-variants.{Known, Reserved}
-use Rattle.words.specs.L1.{readAt}
+use Rattle.l1.specs.L1.{readAt}
 use Rattle.view.specs.declared.Spot.{Spot}
 use Rattle.view.specs.declared.Spot.the-variants.{At, Outside as Nowhere}
 use Rattle.view.specs.declared.Seen.{Seen}

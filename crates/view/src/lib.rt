@@ -2,7 +2,7 @@
 // `GranuleDescriptorRef`. An address is told by its distance in bytes from the table's first.
 ghost use mathlib.Core.Path.{_≡_};
 ghost use Prim.Native.Nat.{_<_};
-ghost use Rattle.words.specs.L1.{readAt};
+ghost use Rattle.l1.specs.L1.{readAt};
 ghost use Rattle.view.specs.Reads.{isWidth, spotOf, seenAt, heldBy, heldAt};
 use gpi::Gpi;
 use gpi::Nibble;
@@ -72,7 +72,7 @@ fn held_by(w: u64, k: u64) -> Held
     requires { ⌜ k < 16 ⌝ }
     ensures { λ r. ⌜ r ≡ heldBy (readAt w k) ⌝ }
 {
-    match words::read(w, k) {
+    match l1::read(w, k) {
         Nibble::Known(g) => Held::Is(g),
         Nibble::Reserved => Held::Invalid,
     }

@@ -3,19 +3,10 @@
 use mathlib.Core.Path.{ap, _∙_}
 use Rattle.config.specs.declared.Config.{Config}
 use Rattle.mend.specs.Outcome.{checkOf}
-use Rattle.packed.specs.Packed.{checkedPacked}
+use Rattle.abi.specs.Packed.{checkedPacked}
 use borrow.Author.Needs.{needs}
 use Rattle.abi.proofs.gpt_check.Statement.{statement}
 use Rattle.abi.proofs.gpt_check.Tie as tie
-
-config-requires : tie.Need-config-requires
-config-requires c κs = search needs
-
-check-requires : tie.Need-check-requires
-check-requires c κs = search needs
-
-pack-checked-requires : tie.Need-pack-checked-requires
-pack-checked-requires c κs = search needs
 
 returns : tie.Need-returns
 returns c =
@@ -25,4 +16,4 @@ returns c =
     ∙ ap (λ (k : Config). checkedPacked (checkOf k (a .l0 .now) (a .arena .now) (a .base) (a .address))) (c .before .before .config .ensures)
 
 pub gpt-check-spec : {M : Type 1} → statement M
-gpt-check-spec = tie.close (tie.spec config-requires check-requires pack-checked-requires returns)
+gpt-check-spec = tie.close (tie.spec (λ c κs. search needs) (λ c κs. search needs) (λ c κs. search needs) returns)

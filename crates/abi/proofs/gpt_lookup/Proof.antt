@@ -3,19 +3,10 @@
 use mathlib.Core.Path.{ap, _∙_}
 use Rattle.config.specs.declared.Config.{Config}
 use Rattle.gpt.specs.Lookup.{lookupOf}
-use Rattle.packed.specs.Packed.{lookedPacked}
+use Rattle.abi.specs.Packed.{lookedPacked}
 use borrow.Author.Needs.{needs}
 use Rattle.abi.proofs.gpt_lookup.Statement.{statement}
 use Rattle.abi.proofs.gpt_lookup.Tie as tie
-
-config-requires : tie.Need-config-requires
-config-requires c κs = search needs
-
-lookup-requires : tie.Need-lookup-requires
-lookup-requires c κs = search needs
-
-pack-looked-requires : tie.Need-pack-looked-requires
-pack-looked-requires c κs = search needs
 
 returns : tie.Need-returns
 returns c =
@@ -25,4 +16,4 @@ returns c =
     ∙ ap (λ (k : Config). lookedPacked (lookupOf k (a .l0 .now) (a .arena .now) (a .base) (a .address))) (c .before .before .config .ensures)
 
 pub gpt-lookup-spec : {M : Type 1} → statement M
-gpt-lookup-spec = tie.close (tie.spec config-requires lookup-requires pack-looked-requires returns)
+gpt-lookup-spec = tie.close (tie.spec (λ c κs. search needs) (λ c κs. search needs) (λ c κs. search needs) returns)

@@ -50,12 +50,6 @@ to-pps c = c .before .before .before .before
 abbrev start : tie.After-l0gptsz → Config
 start c = to-pps (to-pgs c) .before .before .before .args .c
 
-pps-width-requires : tie.Need-pps-width-requires
-pps-width-requires c κs = search needs
-
-enum-known-pps : tie.Need-enum-known-pps
-enum-known-pps c = search needs
-
 enum-told : tie.Need-enum-told
 enum-told c = search needs
 
@@ -63,27 +57,9 @@ returns : tie.Need-returns
 unfolding configuredOf
 returns c = rw (sym (c .before .before .pps-width .ensures) ∙ c .enum-told .given .1)
 
-pgs-width-requires : tie.Need-pgs-width-requires
-pgs-width-requires c κs = search needs
-
-enum-known-pgs : tie.Need-enum-known-pgs
-enum-known-pgs c = search needs
-
-enum-told-2 : tie.Need-enum-told-2
-enum-told-2 c = search needs
-
 returns-2 : tie.Need-returns-2
 unfolding configuredOf
 returns-2 c = rw (pps-is (c .before .before .before .before), sym (c .before .before .pgs-width .ensures) ∙ c .enum-told2 .given .1)
-
-l0gptsz-width-requires : tie.Need-l0gptsz-width-requires
-l0gptsz-width-requires c κs = search needs
-
-enum-known-l0gptsz : tie.Need-enum-known-l0gptsz
-enum-known-l0gptsz c = search needs
-
-enum-told-3 : tie.Need-enum-told-3
-enum-told-3 c = search needs
 
 returns-3 : tie.Need-returns-3
 unfolding configuredOf
@@ -110,17 +86,17 @@ pub configure-spec : {M : Type 1} → statement M
 configure-spec =
     tie.close
     (tie.spec
-    pps-width-requires
-    enum-known-pps
+    (λ c κs. search needs)
+    (λ c. search needs)
     enum-told
     returns
-    pgs-width-requires
-    enum-known-pgs
-    enum-told-2
+    (λ c κs. search needs)
+    (λ c. search needs)
+    (λ c. search needs)
     returns-2
-    l0gptsz-width-requires
-    enum-known-l0gptsz
-    enum-told-3
+    (λ c κs. search needs)
+    (λ c. search needs)
+    (λ c. search needs)
     returns-3
     returns-4
     returns-5

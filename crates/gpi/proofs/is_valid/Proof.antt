@@ -7,9 +7,6 @@ use Rattle.gpi.proofs.Rules.{valid-at, past}
 use Rattle.gpi.proofs.is_valid.Statement.{statement}
 use Rattle.gpi.proofs.is_valid.Tie as tie
 
-array-read-result : tie.Need-array-read-result
-array-read-result c = search needs
-
 returns : tie.Need-returns
 returns c = valid-at _ (c .if1 .taken)
 
@@ -17,4 +14,4 @@ returns-2 : tie.Need-returns-2
 returns-2 c = sym (ap isKnown (past _ (c .if1 .left)))
 
 pub is-valid-spec : {M : Type 1} → statement M
-is-valid-spec = tie.close (tie.spec array-read-result returns returns-2)
+is-valid-spec = tie.close (tie.spec (λ c. search needs) returns returns-2)

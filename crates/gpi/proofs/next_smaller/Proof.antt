@@ -4,18 +4,6 @@ use borrow.Author.Needs.{needs}
 use Rattle.gpi.proofs.next_smaller.Statement.{statement}
 use Rattle.gpi.proofs.next_smaller.Tie as tie
 
-enum-told : tie.Need-enum-told
-enum-told c = search needs
-
-enum-told-2 : tie.Need-enum-told-2
-enum-told-2 c = search needs
-
-enum-told-3 : tie.Need-enum-told-3
-enum-told-3 c = search needs
-
-returns : tie.Need-returns
-returns c = search needs
-
 returns-2 : tie.Need-returns-2
 returns-2 c = rw (c .enum-told2 .given .1)
 
@@ -24,4 +12,4 @@ returns-3 c = rw (c .enum-told3 .given .1)
 
 pub next-smaller-spec : {M : Type 1} → statement M
 next-smaller-spec =
-    tie.close (tie.spec enum-told enum-told-2 enum-told-3 returns returns-2 returns-3)
+    tie.close (tie.spec (λ c. search needs) (λ c. search needs) (λ c. search needs) (λ c. search needs) returns-2 returns-3)

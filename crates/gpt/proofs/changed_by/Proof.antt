@@ -4,12 +4,6 @@ use borrow.Author.Needs.{needs}
 use Rattle.gpt.proofs.changed_by.Statement.{statement}
 use Rattle.gpt.proofs.changed_by.Tie as tie
 
-enum-known-a : tie.Need-enum-known-a
-enum-known-a c = search needs
-
-enum-known-a-2 : tie.Need-enum-known-a-2
-enum-known-a-2 c = search needs
-
 enum-told : tie.Need-enum-told
 enum-told c = search needs
 
@@ -24,4 +18,4 @@ returns-3 c = rw (c .enum-told .given .1)
 
 pub changed-by-spec : {M : Type 1} → statement M
 changed-by-spec =
-    tie.close (tie.spec enum-known-a enum-known-a-2 enum-told returns returns-2 returns-3)
+    tie.close (tie.spec (λ c. search needs) (λ c. search needs) enum-told returns returns-2 returns-3)

@@ -5,9 +5,6 @@ use borrow.Author.Needs.{needs}
 use Rattle.gpt.proofs.grant.Statement.{statement}
 use Rattle.gpt.proofs.grant.Tie as tie
 
-is-gpi-supported-requires : tie.Need-is-gpi-supported-requires
-is-gpi-supported-requires c κs = search needs
-
 returns : tie.Need-returns
 returns c = rw (sym (c .before .is-gpi-supported .ensures) ∙ c .if1 .taken)
 
@@ -15,4 +12,4 @@ returns-2 : tie.Need-returns-2
 returns-2 c = rw (sym (c .before .is-gpi-supported .ensures) ∙ c .if1 .left)
 
 pub grant-spec : {M : Type 1} → statement M
-grant-spec = tie.close (tie.spec is-gpi-supported-requires returns returns-2)
+grant-spec = tie.close (tie.spec (λ c κs. search needs) returns returns-2)

@@ -6,15 +6,6 @@ use borrow.Author.Needs.{needs}
 use Rattle.gpt.proofs.judge.Statement.{statement}
 use Rattle.gpt.proofs.judge.Tie as tie
 
-read-requires : tie.Need-read-requires
-read-requires c κs = search needs
-
-enum-known-g : tie.Need-enum-known-g
-enum-known-g c = search needs
-
-grant-requires : tie.Need-grant-requires
-grant-requires c κs = search needs
-
 enum-told : tie.Need-enum-told
 enum-told c = search needs
 
@@ -28,4 +19,4 @@ returns-2 c = ap (judged (c .before .before .before .args .c)) (sym (c .enum-tol
 
 pub judge-spec : {M : Type 1} → statement M
 judge-spec =
-    tie.close (tie.spec read-requires enum-known-g grant-requires enum-told returns returns-2)
+    tie.close (tie.spec (λ c κs. search needs) (λ c. search needs) (λ c κs. search needs) enum-told returns returns-2)

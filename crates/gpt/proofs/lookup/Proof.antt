@@ -5,8 +5,8 @@ use native.Mathlib.Nat.{add-sub-cancel-left}
 use native.Mathlib.Omega.{arith}
 use borrow.Author.Needs.{needs}
 use lib.ListN.{length}
-use Rattle.place.specs.Sited.{Sited}
-use Rattle.place.proofs.Promises.{resolved, table-length}
+use Rattle.resolve.specs.Sited.{Sited}
+use Rattle.resolve.proofs.Promises.{resolved, table-length}
 use Rattle.gpt.specs.Lookup.{plain, lookedAt, lookupOf}
 use Rattle.gpt.proofs.lookup.Statement.{statement}
 use Rattle.gpt.proofs.lookup.Tie as tie
@@ -17,32 +17,11 @@ at-site c =
     let a = c .before .before .before .before .before .args in
     resolved (plain (a .c) (a .arena .now) (a .base .0) (a .address .0)) (a .l0 .now) _ (sym (c .before .before .find .ensures) ∙ c .s .given .1) .1 .sited
 
-find-requires : tie.Need-find-requires
-find-requires c κs = search needs
-
-enum-known-r : tie.Need-enum-known-r
-enum-known-r c = search needs
-
-enum-known-g : tie.Need-enum-known-g
-enum-known-g c = search needs
-
-grant-requires : tie.Need-grant-requires
-grant-requires c κs = search needs
-
-enum-known-s : tie.Need-enum-known-s
-enum-known-s c = search needs
-
 add-end : tie.Need-add-end
 add-end c = let s = at-site (c .before .before) in omega (arith, s .fits, s .arena)
 
 mul-read-table : tie.Need-mul-read-table
 mul-read-table c = let s = at-site (c .before .before) in omega (arith, s .fits, s .arena)
-
-sub-read-table : tie.Need-sub-read-table
-sub-read-table c = search needs
-
-part-read-table-start : tie.Need-part-read-table-start
-part-read-table-start c = search needs
 
 part-read-table-end : tie.Need-part-read-table-end
 part-read-table-end c = at-site (c .before .before) .fits
@@ -66,15 +45,15 @@ pub lookup-spec : {M : Type 1} → statement M
 lookup-spec =
     tie.close
     (tie.spec
-    find-requires
-    enum-known-r
-    enum-known-g
-    grant-requires
-    enum-known-s
+    (λ c κs. search needs)
+    (λ c. search needs)
+    (λ c. search needs)
+    (λ c κs. search needs)
+    (λ c. search needs)
     add-end
     mul-read-table
-    sub-read-table
-    part-read-table-start
+    (λ c. search needs)
+    (λ c. search needs)
     part-read-table-end
     read-table-requires
     returns

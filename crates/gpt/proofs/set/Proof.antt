@@ -3,8 +3,8 @@
 use mathlib.Core.Path.{refl, sym, _∙_}
 use borrow.Author.Tests.{ltb-false}
 use Rattle.config.specs.declared.Widths.{Widths}
-use Rattle.place.specs.Sited.{Resolved}
-use Rattle.place.proofs.Promises.{resolved}
+use Rattle.resolve.specs.Sited.{Resolved}
+use Rattle.resolve.proofs.Promises.{resolved}
 use Rattle.gpt.specs.Set.{asking, setOf, setAt}
 use borrow.Author.Needs.{needs}
 use Rattle.gpt.proofs.set.Statement.{statement}
@@ -17,31 +17,13 @@ at-site : (c : tie.After-s) →
     (w : Widths) × Resolved (asking (a .c) (a .arena .now) (a .base .0) (a .log .now) (a .address .0) (p .before .gpi-of .result)) (a .l0 .now) w (c .s .given .0 .0)
 at-site c = resolved _ _ _ (sym (c .before .before .resolve .ensures) ∙ c .s .given .1)
 
-gpi-of-requires : tie.Need-gpi-of-requires
-gpi-of-requires c κs = search needs
-
-resolve-requires : tie.Need-resolve-requires
-resolve-requires c κs = search needs
-
-enum-known-r : tie.Need-enum-known-r
-enum-known-r c = search needs
-
 enum-told : tie.Need-enum-told
 enum-told c = search needs
-
-enum-known-s : tie.Need-enum-known-s
-enum-known-s c = search needs
-
-enum-known-n : tie.Need-enum-known-n
-enum-known-n c = search needs
 
 set-site-requires : tie.Need-set-site-requires
 set-site-requires c κs =
     let k = at-site (c .before .before .before .before .before .before) in
     (k .1 .sited, ltb-false _ _ (k .1 .passed .long))
-
-enum-told-2 : tie.Need-enum-told-2
-enum-told-2 c = search needs
 
 returns : tie.Need-returns
 unfolding setOf setAt
@@ -54,12 +36,6 @@ unfolding setOf setAt
 returns-2 c =
     let p = c .before .before in
     rw (← p .before .gpi-of .ensures, sym (p .resolve .ensures) ∙ c .enum-told .given .1) record { answer = refl; arena = refl; log = refl }
-
-same-length : tie.Need-same-length
-same-length c = search needs
-
-same-length-2 : tie.Need-same-length-2
-same-length-2 c = search needs
 
 returns-3 : tie.Need-returns-3
 unfolding setOf setAt
@@ -81,17 +57,17 @@ pub set-spec : {M : Type 1} → statement M
 set-spec =
     tie.close
     (tie.spec
-    gpi-of-requires
-    resolve-requires
-    enum-known-r
+    (λ c κs. search needs)
+    (λ c κs. search needs)
+    (λ c. search needs)
     enum-told
-    enum-known-s
-    enum-known-n
+    (λ c. search needs)
+    (λ c. search needs)
     set-site-requires
-    enum-told-2
+    (λ c. search needs)
     returns
     returns-2
-    same-length
-    same-length-2
+    (λ c. search needs)
+    (λ c. search needs)
     returns-3
     returns-4)

@@ -13,12 +13,6 @@ add-end c = let h = c .before .before .before .pre .0 in omega (arith, h .fits)
 mul-set-table : tie.Need-mul-set-table
 mul-set-table c = let h = c .before .before .before .pre .0 in omega (arith, h .fits, h .arena)
 
-sub-set-table : tie.Need-sub-set-table
-sub-set-table c = search needs
-
-part-set-table-start : tie.Need-part-set-table-start
-part-set-table-start c = search needs
-
 part-set-table-end : tie.Need-part-set-table-end
 part-set-table-end c = c .before .before .before .pre .0 .fits
 
@@ -29,15 +23,6 @@ set-table-requires c κs =
       placed (s .args .arena .now) (s .args .log .now) (s .args .address .0) (s .args .g) (s .pre .0),
       (s .pre .0 .granule, roomy (s .args .arena .now) (s .args .log .now) (s .args .address .0) (s .args .g) (s .pre .0) (s .pre .1)),
     )
-
-changed-by-requires : tie.Need-changed-by-requires
-changed-by-requires c κs = search needs
-
-same-length : tie.Need-same-length
-same-length c = search needs
-
-same-length-2 : tie.Need-same-length-2
-same-length-2 c = search needs
 
 returns : tie.Need-returns
 returns c =
@@ -53,11 +38,11 @@ set-site-spec =
     (tie.spec
     add-end
     mul-set-table
-    sub-set-table
-    part-set-table-start
+    (λ c. search needs)
+    (λ c. search needs)
     part-set-table-end
     set-table-requires
-    changed-by-requires
-    same-length
-    same-length-2
+    (λ c κs. search needs)
+    (λ c. search needs)
+    (λ c. search needs)
     returns)

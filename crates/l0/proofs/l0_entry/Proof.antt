@@ -10,12 +10,6 @@ use Rattle.l0.specs.declared.L0Entry.the-variants.{Table}
 use Rattle.l0.proofs.l0_entry.Statement.{statement}
 use Rattle.l0.proofs.l0_entry.Tie as tie
 
-gpi-of-requires : tie.Need-gpi-of-requires
-gpi-of-requires c κs = search needs
-
-enum-known-g : tie.Need-enum-known-g
-enum-known-g c = search needs
-
 enum-told : tie.Need-enum-told
 enum-told c = search needs
 
@@ -38,4 +32,4 @@ returns-4 c = rw (ne-eqb _ 1 (c .match .rest .0 .1), ne-eqb _ 3 (c .match .rest 
 pub l0-entry-spec : {M : Type 1} → statement M
 l0-entry-spec =
     tie.close
-    (tie.spec gpi-of-requires enum-known-g enum-told returns returns-2 returns-3 returns-4)
+    (tie.spec (λ c κs. search needs) (λ c. search needs) enum-told returns returns-2 returns-3 returns-4)

@@ -28,11 +28,8 @@ returns c = uneven _ (c .if1 .taken)
 returns-2 : tie.Need-returns-2
 returns-2 c = high _ (c .before .before .if1 .left) (c .if2 .taken)
 
-add-t2 : tie.Need-add-t2
-add-t2 c = search needs
-
 returns-3 : tie.Need-returns-3
 returns-3 c = made _ (c .before .before .before .if1 .left) (c .before .if2 .left)
 
 pub table-spec : {M : Type 1} → statement M
-table-spec = tie.close (tie.spec returns returns-2 add-t2 returns-3)
+table-spec = tie.close (tie.spec returns returns-2 (λ c. search needs) returns-3)

@@ -4,9 +4,9 @@ use mathlib.Core.Path.{_≡_, sym, _∙_}
 use native.Mathlib.Nat.{add-sub-cancel-left}
 use native.Mathlib.Omega.{arith}
 use lib.ListN.{length}
-use Rattle.place.specs.declared.Place.the-variants.{Table}
-use Rattle.place.specs.Place.{placeOf}
-use Rattle.place.specs.Sited.{Sited}
+use Rattle.resolve.specs.declared.Place.the-variants.{Table}
+use Rattle.resolve.specs.Place.{placeOf}
+use Rattle.resolve.specs.Sited.{Sited}
 use Rattle.gpt.specs.Lookup.{plain}
 use Rattle.mend.proofs.Sites.{site-regions, sited, check-refused, check-block, check-in}
 use borrow.Author.Needs.{needs}
@@ -24,29 +24,14 @@ at-site c =
     let a = c .before .before .before .before .before .args in
     sited (a .c) (a .l0 .now) (a .arena .now) (a .base .0) (a .address .0) _ (there c)
 
-resolve-requires : tie.Need-resolve-requires
-resolve-requires c κs = search needs
-
-enum-known-r : tie.Need-enum-known-r
-enum-known-r c = search needs
-
 enum-told : tie.Need-enum-told
 enum-told c = search needs
-
-enum-known-s : tie.Need-enum-known-s
-enum-known-s c = search needs
 
 add-end : tie.Need-add-end
 add-end c = let s = at-site (c .before .before) in omega (arith, s .fits, s .arena)
 
 mul-check-table : tie.Need-mul-check-table
 mul-check-table c = let s = at-site (c .before .before) in omega (arith, s .fits, s .arena)
-
-sub-check-table : tie.Need-sub-check-table
-sub-check-table c = search needs
-
-part-check-table-start : tie.Need-part-check-table-start
-part-check-table-start c = search needs
 
 part-check-table-end : tie.Need-part-check-table-end
 part-check-table-end c = at-site (c .before .before) .fits
@@ -56,9 +41,6 @@ check-table-requires c κs =
     let s = c .before .before .before in
     let a = s .before .before .before .before .before .args in
     rw (add-sub-cancel-left _ _) (site-regions (a .arena .now) _ (at-site s))
-
-verdict-of-requires : tie.Need-verdict-of-requires
-verdict-of-requires c κs = search needs
 
 returns : tie.Need-returns
 returns c =
@@ -84,17 +66,17 @@ pub check-spec : {M : Type 1} → statement M
 check-spec =
     tie.close
     (tie.spec
-    resolve-requires
-    enum-known-r
+    (λ c κs. search needs)
+    (λ c. search needs)
     enum-told
-    enum-known-s
+    (λ c. search needs)
     add-end
     mul-check-table
-    sub-check-table
-    part-check-table-start
+    (λ c. search needs)
+    (λ c. search needs)
     part-check-table-end
     check-table-requires
-    verdict-of-requires
+    (λ c κs. search needs)
     returns
     returns-2
     returns-3)

@@ -4,9 +4,9 @@ use mathlib.Core.Path.{_≡_, sym, _∙_}
 use native.Mathlib.Nat.{add-sub-cancel-left}
 use native.Mathlib.Omega.{arith}
 use lib.ListN.{length}
-use Rattle.place.specs.declared.Place.the-variants.{Table}
-use Rattle.place.specs.Place.{placeOf}
-use Rattle.place.specs.Sited.{Sited}
+use Rattle.resolve.specs.declared.Place.the-variants.{Table}
+use Rattle.resolve.specs.Place.{placeOf}
+use Rattle.resolve.specs.Sited.{Sited}
 use Rattle.gpt.specs.Lookup.{plain}
 use Rattle.mend.proofs.Sites.{site-regions, sited, mend-refused, mend-block, mend-in}
 use borrow.Author.Needs.{needs}
@@ -24,29 +24,14 @@ at-site c =
     let a = c .before .before .before .before .before .args in
     sited (a .c) (a .l0 .now) (a .arena .now) (a .base .0) (a .address .0) _ (there c)
 
-resolve-requires : tie.Need-resolve-requires
-resolve-requires c κs = search needs
-
-enum-known-r : tie.Need-enum-known-r
-enum-known-r c = search needs
-
 enum-told : tie.Need-enum-told
 enum-told c = search needs
-
-enum-known-s : tie.Need-enum-known-s
-enum-known-s c = search needs
 
 add-end : tie.Need-add-end
 add-end c = let s = at-site (c .before .before) in omega (arith, s .fits, s .arena)
 
 mul-mend-table : tie.Need-mul-mend-table
 mul-mend-table c = let s = at-site (c .before .before) in omega (arith, s .fits, s .arena)
-
-sub-mend-table : tie.Need-sub-mend-table
-sub-mend-table c = search needs
-
-part-mend-table-start : tie.Need-part-mend-table-start
-part-mend-table-start c = search needs
 
 part-mend-table-end : tie.Need-part-mend-table-end
 part-mend-table-end c = at-site (c .before .before) .fits
@@ -69,9 +54,6 @@ returns-2 c =
     let a = p .before .before .before .args in
     mend-block (a .c) (a .l0 .now) (a .arena .now) (a .base .0) (a .address .0) (a .limit) _ (sym (p .resolve .ensures) ∙ c .enum-told .given .1)
 
-same-length : tie.Need-same-length
-same-length c = search needs
-
 returns-3 : tie.Need-returns-3
 returns-3 c =
     let k = c .before .before in
@@ -85,17 +67,17 @@ pub mend-spec : {M : Type 1} → statement M
 mend-spec =
     tie.close
     (tie.spec
-    resolve-requires
-    enum-known-r
+    (λ c κs. search needs)
+    (λ c. search needs)
     enum-told
-    enum-known-s
+    (λ c. search needs)
     add-end
     mul-mend-table
-    sub-mend-table
-    part-mend-table-start
+    (λ c. search needs)
+    (λ c. search needs)
     part-mend-table-end
     mend-table-requires
     returns
     returns-2
-    same-length
+    (λ c. search needs)
     returns-3)

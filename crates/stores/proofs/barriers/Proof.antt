@@ -4,34 +4,13 @@ use mathlib.Core.Path.{refl, sym}
 use Prim.Native.Nat.{ℕ, _+_}
 use native.Mathlib.Nat.{add-zero}
 use native.Mathlib.Omega.{arith}
-use Rattle.tables.specs.Stores.{apply}
-use Rattle.tables.specs.Events.{dsb-oshst, tlbi, dsb-osh}
+use Rattle.theory.specs.Stores.{apply}
+use Rattle.theory.specs.Events.{dsb-oshst, tlbi, dsb-osh}
 use Rattle.stores.specs.declared.Tally.{Tally}
 use Rattle.stores.proofs.Events.{one, after}
 use borrow.Author.Needs.{needs}
 use Rattle.stores.proofs.barriers.Statement.{statement}
 use Rattle.stores.proofs.barriers.Tie as tie
-
-log-record-requires : tie.Need-log-record-requires
-log-record-requires c κs = search needs
-
-add-log-record : tie.Need-add-log-record
-add-log-record c = search needs
-
-log-record-requires-2 : tie.Need-log-record-requires-2
-log-record-requires-2 c κs = search needs
-
-add-log-record-2 : tie.Need-add-log-record-2
-add-log-record-2 c = search needs
-
-log-record-requires-3 : tie.Need-log-record-requires-3
-log-record-requires-3 c κs = search needs
-
-add-t11 : tie.Need-add-t11
-add-t11 c = search needs
-
-same-length : tie.Need-same-length
-same-length c = search needs
 
 -- one record more
 abbrev more : Tally → ℕ → Tally
@@ -52,11 +31,11 @@ pub barriers-spec : {M : Type 1} → statement M
 barriers-spec =
     tie.close
     (tie.spec
-    log-record-requires
-    add-log-record
-    log-record-requires-2
-    add-log-record-2
-    log-record-requires-3
-    add-t11
-    same-length
+    (λ c κs. search needs)
+    (λ c. search needs)
+    (λ c κs. search needs)
+    (λ c. search needs)
+    (λ c κs. search needs)
+    (λ c. search needs)
+    (λ c. search needs)
     returns)

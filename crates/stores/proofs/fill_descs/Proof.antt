@@ -6,8 +6,8 @@ use native.Mathlib.Nat.{pos-of-ne-zero}
 use native.Mathlib.Numerals.{add-one}
 use native.Mathlib.Omega.{arith}
 use lib.ListN.{length, length-set}
-use Rattle.tables.specs.Stores.{apply, fill}
-use Rattle.tables.proofs.Stores.{apply-fill-suc}
+use Rattle.theory.specs.Stores.{apply, fill}
+use Rattle.theory.proofs.Stores.{apply-fill-suc}
 use Rattle.stores.proofs.Events.{fill-done, fill-none}
 use Rattle.stores.proofs.fill_descs.Statement.{statement}
 use Rattle.stores.proofs.fill_descs.Tie as tie
@@ -25,37 +25,10 @@ loop-holds : tie.Need-loop-holds Inv-loop μ-loop
 unfolding apply fill
 loop-holds c = (omega arith, refl, refl)
 
-add-table : tie.Need-add-table Inv-loop μ-loop
-add-table c = omega arith
-
-mul-table : tie.Need-mul-table Inv-loop μ-loop
-mul-table c = omega arith
-
-slice-write-table : tie.Need-slice-write-table Inv-loop μ-loop
-slice-write-table c = omega arith
-
-add-k : tie.Need-add-k Inv-loop μ-loop
-add-k c = omega arith
-
-loop-less : tie.Need-loop-less Inv-loop μ-loop
-loop-less c = omega arith
-
 loop-again : tie.Need-loop-again Inv-loop μ-loop
 loop-again c =
     let l = c .before .loop in
     (omega arith, rw (add-one, apply-fill-suc, ← l .inv .1), simp length-set (l .inv .2))
-
-add-log-record : tie.Need-add-log-record Inv-loop μ-loop
-add-log-record c = omega arith
-
-log-record-requires : tie.Need-log-record-requires Inv-loop μ-loop
-log-record-requires c κs = omega arith
-
-add-t18 : tie.Need-add-t18 Inv-loop μ-loop
-add-t18 c = omega arith
-
-add-t21 : tie.Need-add-t21 Inv-loop μ-loop
-add-t21 c = omega arith
 
 same-length : tie.Need-same-length Inv-loop μ-loop
 same-length c = c .before .before .before .before .before .before .loop .inv .2
@@ -78,16 +51,16 @@ fill-descs-spec =
     μ-loop
     returns
     loop-holds
-    add-table
-    mul-table
-    slice-write-table
-    add-k
-    loop-less
+    (λ c. omega arith)
+    (λ c. omega arith)
+    (λ c. omega arith)
+    (λ c. omega arith)
+    (λ c. omega arith)
     loop-again
-    add-log-record
-    log-record-requires
-    add-t18
-    add-t21
+    (λ c. omega arith)
+    (λ c κs. omega arith)
+    (λ c. omega arith)
+    (λ c. omega arith)
     same-length
     same-length-2
     returns-2)

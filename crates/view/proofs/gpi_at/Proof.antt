@@ -7,12 +7,6 @@ use borrow.Author.Needs.{needs}
 use Rattle.view.proofs.gpi_at.Statement.{statement}
 use Rattle.view.proofs.gpi_at.Tie as tie
 
-spot-at-requires : tie.Need-spot-at-requires
-spot-at-requires c κs = search needs
-
-enum-known-i : tie.Need-enum-known-i
-enum-known-i c = search needs
-
 mul-held-by : tie.Need-mul-held-by
 mul-held-by c = let h = in-table _ _ _ _ _ (sym (c .before .before .before .spot-at .ensures) ∙ c .before .i .given .1) in omega arith
 
@@ -35,8 +29,8 @@ pub gpi-at-spec : {M : Type 1} → statement M
 gpi-at-spec =
     tie.close
     (tie.spec
-    spot-at-requires
-    enum-known-i
+    (λ c κs. search needs)
+    (λ c. search needs)
     mul-held-by
     shared-slice-read-held-by
     held-by-requires

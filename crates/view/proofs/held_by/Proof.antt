@@ -5,12 +5,6 @@ use borrow.Author.Needs.{needs}
 use Rattle.view.proofs.held_by.Statement.{statement}
 use Rattle.view.proofs.held_by.Tie as tie
 
-read-requires : tie.Need-read-requires
-read-requires c κs = search needs
-
-enum-known-g : tie.Need-enum-known-g
-enum-known-g c = search needs
-
 enum-told : tie.Need-enum-told
 enum-told c = search needs
 
@@ -21,4 +15,4 @@ returns-2 : tie.Need-returns-2
 returns-2 c = rw (sym (c .before .before .read .ensures) ∙ c .enum-told .given .1)
 
 pub held-by-spec : {M : Type 1} → statement M
-held-by-spec = tie.close (tie.spec read-requires enum-known-g enum-told returns returns-2)
+held-by-spec = tie.close (tie.spec (λ c κs. search needs) (λ c. search needs) enum-told returns returns-2)

@@ -7,9 +7,6 @@ use borrow.Author.Needs.{needs}
 use Rattle.view.proofs.spot_at.Statement.{statement}
 use Rattle.view.proofs.spot_at.Tie as tie
 
-is-width-requires : tie.Need-is-width-requires
-is-width-requires c κs = search needs
-
 returns : tie.Need-returns
 returns c = inside _ _ _ (sym (c .before .before .is-width .ensures) ∙ c .before .if1 .taken) (omega (arith, c .if2 .taken))
 
@@ -23,4 +20,4 @@ returns-3 : tie.Need-returns-3
 returns-3 c = not-width _ _ _ (sym (c .before .is-width .ensures) ∙ c .if1 .left)
 
 pub spot-at-spec : {M : Type 1} → statement M
-spot-at-spec = tie.close (tie.spec is-width-requires shr-g returns returns-2 returns-3)
+spot-at-spec = tie.close (tie.spec (λ c κs. search needs) shr-g returns returns-2 returns-3)

@@ -7,12 +7,6 @@ use borrow.Author.Needs.{needs}
 use Rattle.view.proofs.word_at.Statement.{statement}
 use Rattle.view.proofs.word_at.Tie as tie
 
-spot-at-requires : tie.Need-spot-at-requires
-spot-at-requires c κs = search needs
-
-enum-known-i : tie.Need-enum-known-i
-enum-known-i c = search needs
-
 mul-t8 : tie.Need-mul-t8
 mul-t8 c = let h = in-table _ _ _ _ _ (sym (c .before .before .before .spot-at .ensures) ∙ c .before .i .given .1) in omega arith
 
@@ -32,8 +26,8 @@ pub word-at-spec : {M : Type 1} → statement M
 word-at-spec =
     tie.close
     (tie.spec
-    spot-at-requires
-    enum-known-i
+    (λ c κs. search needs)
+    (λ c. search needs)
     mul-t8
     shared-slice-read-t10
     enum-told

@@ -17,33 +17,6 @@ abbrev μ-loop : tie.MeasureT-loop
 loop-holds : tie.Need-loop-holds Inv-loop μ-loop
 loop-holds c = refl
 
-mended-requires : tie.Need-mended-requires Inv-loop μ-loop
-mended-requires c κs = search needs
-
-add-limit : tie.Need-add-limit Inv-loop μ-loop
-add-limit c = omega arith
-
-loop-less : tie.Need-loop-less Inv-loop μ-loop
-loop-less c = omega arith
-
-loop-again : tie.Need-loop-again Inv-loop μ-loop
-loop-again c = omega arith
-
-same-length : tie.Need-same-length Inv-loop μ-loop
-same-length c = omega arith
-
-returns : tie.Need-returns Inv-loop μ-loop
-returns c = search needs
-
-mended-requires-2 : tie.Need-mended-requires-2 Inv-loop μ-loop
-mended-requires-2 c κs = search needs
-
-same-length-2 : tie.Need-same-length-2 Inv-loop μ-loop
-same-length-2 c = omega arith
-
-returns-2 : tie.Need-returns-2 Inv-loop μ-loop
-returns-2 c = search needs
-
 pub all-mended-spec : {M : Type 1} → statement M
 all-mended-spec =
     tie.close
@@ -51,12 +24,12 @@ all-mended-spec =
     Inv-loop
     μ-loop
     loop-holds
-    mended-requires
-    add-limit
-    loop-less
-    loop-again
-    same-length
-    returns
-    mended-requires-2
-    same-length-2
-    returns-2)
+    (λ c κs. search needs)
+    (λ c. omega arith)
+    (λ c. omega arith)
+    (λ c. omega arith)
+    (λ c. omega arith)
+    (λ c. search needs)
+    (λ c κs. search needs)
+    (λ c. omega arith)
+    (λ c. search needs))

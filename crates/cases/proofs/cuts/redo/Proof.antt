@@ -17,23 +17,8 @@ abbrev μ-loop : tie.MeasureT-loop
 loop-holds : tie.Need-loop-holds Inv-loop μ-loop
 loop-holds c = refl
 
-redo-record-requires : tie.Need-redo-record-requires Inv-loop μ-loop
-redo-record-requires c κs = search needs
-
-add-at : tie.Need-add-at Inv-loop μ-loop
-add-at c = omega arith
-
-loop-less : tie.Need-loop-less Inv-loop μ-loop
-loop-less c = omega arith
-
-loop-again : tie.Need-loop-again Inv-loop μ-loop
-loop-again c = omega arith
-
 same-length : tie.Need-same-length Inv-loop μ-loop
 same-length c = c .before .loop .inv
-
-returns : tie.Need-returns Inv-loop μ-loop
-returns c = search needs
 
 pub redo-spec : {M : Type 1} → statement M
 redo-spec =
@@ -42,9 +27,9 @@ redo-spec =
     Inv-loop
     μ-loop
     loop-holds
-    redo-record-requires
-    add-at
-    loop-less
-    loop-again
+    (λ c κs. search needs)
+    (λ c. omega arith)
+    (λ c. omega arith)
+    (λ c. omega arith)
     same-length
-    returns)
+    (λ c. search needs))

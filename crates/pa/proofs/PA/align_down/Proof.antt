@@ -1,4 +1,4 @@
--- `PA::align_down` meets its contract: the quotient times the divisor is no more than the number, and any quotient times 0 is 0.
+-- `pa::align_down` meets its contract: the quotient times the divisor is no more than the number, and any quotient times 0 is 0.
 -- Assumes nothing.
 use borrow.Author.Needs.{needs}
 use mathlib.Core.Path.{sym}
@@ -9,14 +9,8 @@ use Rattle.pa.proofs.PA.align_down.Tie as tie
 returns : tie.Need-returns
 returns c = rw (c .if1 .taken, mul-zero)
 
-div-t4 : tie.Need-div-t4
-div-t4 c = search needs
-
 mul-t5 : tie.Need-mul-t5
 mul-t5 c = record { fits = lt-of-le-of-lt (div-mul-le-self _ _) (search needs) }
 
-returns-2 : tie.Need-returns-2
-returns-2 c = search needs
-
 pub align-down-spec : {M : Type 1} → statement M
-align-down-spec = tie.close (tie.spec returns div-t4 mul-t5 returns-2)
+align-down-spec = tie.close (tie.spec returns (λ c. search needs) mul-t5 (λ c. search needs))

@@ -1,4 +1,4 @@
--- `PA::sub` meets its contract: addresses below 2^52 are themselves as i64, and their difference fits.
+-- `pa::sub` meets its contract: addresses below 2^52 are themselves as i64, and their difference fits.
 -- Assumes nothing.
 use borrow.Author.Needs.{needs}
 use borrow.Author.Tests.{le-ltb, lt-ltb}
@@ -47,12 +47,6 @@ returns c = let a = c .before .args in first-high (a .self .0) (a .other .0) (c 
 returns-2 : tie.Need-returns-2
 returns-2 c = let a = c .before .before .args in second-high (a .self .0) (a .other .0) (c .before .if1 .left) (c .if2 .taken)
 
-cast-t6 : tie.Need-cast-t6
-cast-t6 c = search needs
-
-cast-t7 : tie.Need-cast-t7
-cast-t7 c = search needs
-
 sub-t8 : tie.Need-sub-t8
 sub-t8 c = exact _ _ (c .before .if1 .left) (c .if2 .left)
 
@@ -62,4 +56,4 @@ returns-3 c =
     ∙ sym (simp (lt-ltb _ _ (c .before .if1 .left), lt-ltb _ _ (c .if2 .left)))
 
 pub sub-spec : {M : Type 1} → statement M
-sub-spec = tie.close (tie.spec returns returns-2 cast-t6 cast-t7 sub-t8 returns-3)
+sub-spec = tie.close (tie.spec returns returns-2 (λ c. search needs) (λ c. search needs) sub-t8 returns-3)

@@ -1,0 +1,173 @@
+-- What is left of a text, as a fact about the definitions: which line comes next, and that the places rise.
+-- Assumes nothing.
+use mathlib.Core.Path.{_≡_, refl, sym, ap, _∙_}
+use mathlib.Core.Bool.{Bool, true, false, cond}
+use mathlib.Core.List.{List, [], _∷_, _++_, append-nil, map}
+use Prim.Native.Nat.{ℕ, _+_, _-_, _≤_, _<_, _^_}
+use native.Mathlib.Decide.{decLt, ℕ-discrete}
+use native.Mathlib.Nat.{pos-of-ne-zero}
+use native.Mathlib.Omega.{arith}
+use borrow.Author.Tests.{eq-eqb, ne-eqb}
+use lib.ListN.{length}
+use lib.Pow.{pow-mono}
+use Rattle.config.specs.declared.Config.{Config}
+use Rattle.config.specs.declared.Widths.{Widths}
+use Rattle.config.specs.declared.Configured.{Configured}
+use Rattle.config.specs.declared.Configured.the-variants.{Ok, InvalidConfiguration, GptNotInitialized}
+use Rattle.config.specs.Fields.{configuredOf}
+use Rattle.config.proofs.Bounds.{listed-widths}
+use Rattle.gpt.specs.declared.Looked.{Looked}
+use Rattle.gpt.specs.Lookup.{lookupOf}
+use Rattle.dump_image.specs.declared.Read.{Read}
+use Rattle.dump_image.specs.declared.Read.the-variants.{Bad, Whole}
+use Rattle.dump_image.specs.Image.{readOf, faultNumber, l0Words, arenaWords}
+use Rattle.dump_lines.specs.declared.Run.{Run}
+use Rattle.dump_lines.specs.Lines.{ascii, header, line, told}
+use Rattle.dump_lines.proofs.Bytes.{length-dec}
+use Rattle.dump_lines.proofs.Lengths.{length-name, length-line, length-header, length-told}
+use Rattle.dump_runs.specs.Runs.{from, total, First}
+use Rattle.dump_runs.proofs.Walk.{some-run, none-left}
+use Rattle.dump_text.specs.declared.Opening.{Opening}
+use Rattle.dump_text.specs.declared.Opening.the-variants.{Shown, Refused}
+use Rattle.dump_text.specs.Text.{lines, shuts, openingBy, openingOf, firstNumber, refusedLine, badLine, shownText, tableText, imageText, dumpText}
+use Rattle.dump_text.specs.Chunks.{Step, step, bytesOf, oneStep, runStep, runSteps, openSteps, shownSteps, tableSteps, imageSteps, dumpSteps, none}
+
+-- a line of a text: the place behind it is a later one, from there on the rest is left, and it is no longer than 47 bytes
+pub record Leads (S : ℕ → List Step) (k : ℕ) (s : Step) : Type 0 where
+  pub is : S k ≡ s ∷ S (s .next)
+  pub up : k < s .next
+  pub short : length (s .bytes) ≤ 47
+
+-- at every place nothing is left, or a line is next; past 2^52 nothing is left
+pub data Left (S : ℕ → List Step) (k : ℕ) : Type 0 where
+  end : S k ≡ [] → Left S k
+  next : (s : Step) → k ≤ 2 ^ 52 → Leads S k s → Left S k
+
+-- ---- a text of one line
+
+pub one-here : (b : List ℕ) (k : ℕ) → k ≡ 0 → oneStep b k ≡ step b 1 ∷ oneStep b 1
+one-here b k e = rw (eq-eqb k 0 e)
+
+pub one-end : (b : List ℕ) (k : ℕ) → (k ≡ 0 → ⊥) → oneStep b k ≡ []
+one-end b k e = rw (ne-eqb k 0 e)
+
+one-left : (b : List ℕ) → length b ≤ 47 → (k : ℕ) → Left (oneStep b) k
+one-left b h k = go (ℕ-discrete k 0)
+  where
+    go : Dec (k ≡ 0) → Left (oneStep b) k
+    go (yes p) = next (step b 1) (omega arith) (record { is = one-here b k p; up = omega arith; short = h })
+    go (no p) = end (one-end b k p)
+
+-- ---- a header and runs
+
+module _ (f : ℕ → Looked) (w : Widths) where
+  pub at-runs : (k : ℕ) → 0 < k → openSteps f w k ≡ runSteps f (total w) (k - 1)
+  at-runs k h = rw (ne-eqb k 0 (omega arith))
+
+  -- the line of the first run
+  pub run-leads : (k : ℕ) (r : Run) → 0 < k → First f (total w) (k - 1) r → Leads (openSteps f w) k (runStep r)
+  run-leads k r h i =
+      let u = i .up in
+      let z : r .last + 1 ≡ r .last + 2 - 1 = omega arith in
+      record {
+        is =
+            at-runs k h ∙ ap (map runStep) (i .runs)
+            ∙ ap (λ (l : List Step). runStep r ∷ l) (ap (λ (a : ℕ). runSteps f (total w) a) z ∙ sym (at-runs (r .last + 2) (omega arith)));
+        up = omega arith;
+        short = let e = length-line r in let n = length-name (r .answer) in omega arith;
+      }
+
+  pub runs-end : (k : ℕ) → total w < k → openSteps f w k ≡ []
+  runs-end k h = at-runs k (omega arith) ∙ ap (map runStep) (none-left f (total w) (k - 1) (omega arith))
+
+  -- the header's line
+  pub header-here : (k : ℕ) → k ≡ 0 → openSteps f w k ≡ step (header w) 1 ∷ openSteps f w 1
+  header-here k e = rw (eq-eqb k 0 e)
+
+  header-leads : (k : ℕ) → k ≡ 0 → Leads (openSteps f w) k (step (header w) 1)
+  header-leads k p =
+      record {
+        is = header-here k p;
+        up = omega arith;
+        short = let e = length-header w in let a = length-dec (w .pps) in let b = length-dec (w .pgs) in let d = length-dec (w .l0gptsz) in omega arith;
+      }
+
+  open-left : w .pps ≤ 52 → (k : ℕ) → Left (openSteps f w) k
+  open-left m k = go (ℕ-discrete k 0) (decLt (total w) k)
+    where
+      t : total w ≤ 2 ^ 52
+      t = pow-mono m
+
+      go : Dec (k ≡ 0) → Dec (total w < k) → Left (openSteps f w) k
+      go (yes p) d = next (step (header w) 1) (omega arith) (header-leads k p)
+      go (no p) (yes q) = end (runs-end k q)
+      go (no p) (no q) =
+          let r = some-run f (total w) (k - 1) (omega (arith, pos-of-ne-zero p)) in
+          next (runStep (r .0)) (omega (arith, t)) (run-leads k (r .0) (omega (arith, pos-of-ne-zero p)) (r .1))
+
+-- ---- tables and images
+
+short-told : (s : List ℕ) (n : ℕ) → length s ≤ 10 → length (told s n) ≤ 47
+short-told s n h = let e = length-told s n in let d = length-dec n in omega arith
+
+module _ (c : Config) (L A : List ℕ) (b : ℕ) (k : ℕ) where
+  shut-left : Left (shownSteps c L A b Refused) k
+  shut-left = one-left (refusedLine (firstNumber c L A b)) (short-told (ascii "refused ") (firstNumber c L A b) (omega arith)) k
+
+  pub table-left : Left (tableSteps c L A b) k
+  unfolding tableSteps
+  table-left = go (configuredOf c) refl
+    where
+      shown : (w : Widths) → w .pps ≤ 52 → (s : Bool) → Left (shownSteps c L A b (cond s Refused (Shown w))) k
+      shown w m true = shut-left
+      shown w m false = open-left (lookupOf c L A b) w m k
+
+      go : (t : Configured) → configuredOf c ≡ t → Left (shownSteps c L A b (openingBy t (firstNumber c L A b))) k
+      go (Ok w) e = shown w (listed-widths c w e .pps-most) (shuts (firstNumber c L A b))
+      go InvalidConfiguration e = shut-left
+      go GptNotInitialized e = shut-left
+
+pub dump-left : (s : List ℕ) (k : ℕ) → Left (dumpSteps s) k
+unfolding dumpSteps
+dump-left s k = go (readOf s)
+  where
+    go : (r : Read) → Left (imageSteps s r) k
+    go (Bad f) = one-left (badLine (faultNumber f)) (short-told (ascii "bad image ") (faultNumber f) (omega arith)) k
+    go (Whole f) = table-left (f .config) (l0Words s f) (arenaWords s f) (f .base .0) k
+
+-- ---- every text has a first line
+
+pub some-first : (s : List ℕ) → none (dumpSteps s 0) ≡ false
+unfolding dumpSteps tableSteps
+some-first s = go (readOf s)
+  where
+    shown : (c : Config) (L A : List ℕ) (b : ℕ) (o : Opening) → none (shownSteps c L A b o 0) ≡ false
+    shown c L A b (Shown w) = refl
+    shown c L A b Refused = refl
+
+    go : (r : Read) → none (imageSteps s r 0) ≡ false
+    go (Bad f) = refl
+    go (Whole f) = shown (f .config) (l0Words s f) (arenaWords s f) (f .base .0) (openingOf (f .config) (firstNumber (f .config) (l0Words s f) (arenaWords s f) (f .base .0)))
+
+-- ---- the steps from the start are the text
+
+run-lines : (rs : List Run) → bytesOf (map runStep rs) ≡ lines rs
+unfolding bytesOf lines
+run-lines [] = refl
+run-lines (r ∷ rs) = ap (λ (l : List ℕ). line r ++ l) (run-lines rs)
+
+table-text : (c : Config) (L A : List ℕ) (b : ℕ) → bytesOf (tableSteps c L A b 0) ≡ tableText c L A b
+unfolding tableSteps tableText bytesOf
+table-text c L A b = go (openingOf c (firstNumber c L A b))
+  where
+    go : (o : Opening) → bytesOf (shownSteps c L A b o 0) ≡ shownText c L A b o
+    go (Shown w) = ap (λ (l : List ℕ). header w ++ l) (run-lines (from (lookupOf c L A b) 0 (total w - 0)) ∙ ap (λ (n : ℕ). lines (from (lookupOf c L A b) 0 n)) (let z : total w - 0 ≡ total w = omega arith in z))
+    go Refused = append-nil _
+
+pub dump-text : (s : List ℕ) → bytesOf (dumpSteps s 0) ≡ dumpText s
+unfolding dumpSteps dumpText bytesOf
+dump-text s = go (readOf s)
+  where
+    go : (r : Read) → bytesOf (imageSteps s r 0) ≡ imageText s r
+    go (Bad f) = append-nil _
+    go (Whole f) = table-text (f .config) (l0Words s f) (arenaWords s f) (f .base .0)

@@ -1,0 +1,43 @@
+-- `dump_text::table_chunk` meets its contract.
+-- Assumes nothing.
+use mathlib.Core.Path.{_≡_, sym, ap, _∙_}
+use Rattle.gpt.specs.Lookup.{lookedNumber}
+use Rattle.dump_text.specs.Text.{firstNumber}
+use Rattle.dump_text.proofs.Walk.{same-steps}
+use Rattle.dump_text.proofs.Opened.{opened, shown, shown-steps, refused-steps}
+use borrow.Author.Needs.{needs}
+use Rattle.dump_text.proofs.table_chunk.Statement.{statement}
+use Rattle.dump_text.proofs.table_chunk.Tie as tie
+
+-- the number of address 0's answer
+first : (c : tie.After-number) → let a = c .before .before .before .before .before .args in c .number .result ≡ firstNumber (a .c) (a .l0 .now) (a .arena .now) (a .base .0)
+first c = c .number .ensures .0 ∙ ap lookedNumber (c .before .lookup .ensures)
+
+open-chunk-requires : tie.Need-open-chunk-requires
+open-chunk-requires c κs = opened _ _ _ _ _ (shown _ _ _ _ (first (c .before .before .before .before .before)) (sym (c .before .before .before .before .opens .ensures) ∙ c .before .before .w .given .1))
+
+enum-told : tie.Need-enum-told
+enum-told c = search needs
+
+returns : tie.Need-returns
+returns c = same-steps (shown-steps _ _ _ _ (first (c .before .before .before .before .before .before .before .before)) (sym (c .before .before .before .before .before .before .before .opens .ensures) ∙ c .before .before .before .before .before .w .given .1)) (c .before .before .open-chunk .ensures)
+
+returns-2 : tie.Need-returns-2
+returns-2 c = same-steps (refused-steps _ _ _ _ (first (c .before .before .before .before .before .before .before .before)) (sym (c .before .before .before .before .before .before .before .opens .ensures) ∙ c .before .before .before .before .before .enum-told .given .1)) (c .before .before .told-chunk .ensures)
+
+pub table-chunk-spec : {M : Type 1} → statement M
+table-chunk-spec =
+    tie.close
+    (tie.spec
+    (λ c κs. search needs)
+    (λ c κs. search needs)
+    (λ c κs. search needs)
+    (λ c. search needs)
+    open-chunk-requires
+    enum-told
+    (λ c. search needs)
+    (λ c κs. search needs)
+    (λ c. search needs)
+    returns
+    (λ c. search needs)
+    returns-2)

@@ -1,2 +1,0 @@
-pub mod Geometry
-pub mod Cases

@@ -1,0 +1,50 @@
+-- The Arm format of L1 words as the theory of tables asks for it: its functions, from the definitions of `L1`. That they have the theory's laws
+-- is shown in `proofs/Arm`.
+-- Assumes nothing: these are definitions.
+use Prim.Native.Nat.{ℕ, _+_, _*_, _%_, _^_}
+use mathlib.Core.Bool.{Bool, true, false}
+use Rattle.gpi.specs.declared.Size.{Size}
+use Rattle.gpi.specs.declared.Size.the-variants.{MB2, MB32, MB512}
+use Rattle.gpi.specs.Gpi.{knownAt}
+use Rattle.gpi.specs.Size.{sizeNum}
+use Rattle.theory.specs.Format.{Format}
+use Rattle.granules.specs.Nibs.{nib}
+use Rattle.granules.specs.Packed.{repeated, put}
+use Rattle.l1.specs.L1.{l1Of, flat}
+use Rattle.l1.specs.declared.L1Entry.{L1Entry}
+use Rattle.l1.specs.declared.L1Entry.the-variants.{Contiguous, Granules, Invalid}
+
+abbrev pub validOf : L1Entry → Bool
+validOf (Contiguous g s) = true
+validOf Granules = true
+validOf Invalid = false
+
+-- the size code; 0 where the word isn't contiguous
+abbrev pub sizeOf : L1Entry → ℕ
+sizeOf (Contiguous g s) = sizeNum s
+sizeOf Granules = 0
+sizeOf Invalid = 0
+
+-- the theory's level of a size: 0, 1, 2 for the codes 1, 2, 3
+abbrev pub levelOf : Size → ℕ
+levelOf MB2 = 0
+levelOf MB32 = 1
+levelOf MB512 = 2
+
+-- the contiguous word of a level (its size code less one) and a GPI's number: `contigWord` by numbers
+abbrev pub contigAt : ℕ → ℕ → ℕ
+contigAt l g = (l + 1) * 2 ^ 8 + g * 2 ^ 4 + 1
+
+abbrev pub arm : Format
+arm =
+    record {
+      valid = λ w. validOf (l1Of w);
+      flat = flat;
+      low = λ w. w % 16;
+      known = knownAt;
+      rep = repeated;
+      contig = contigAt;
+      size = λ w. sizeOf (l1Of w);
+      granule = nib;
+      put = put;
+    }

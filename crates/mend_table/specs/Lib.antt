@@ -1,0 +1,3 @@
+pub mod Normal
+pub mod Ranges
+pub mod Mends

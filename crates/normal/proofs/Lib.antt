@@ -1,2 +1,0 @@
-pub mod Yes
-pub mod Judged

@@ -1,4 +1,0 @@
-pub mod Chain
-pub mod Promises
-pub mod Granules
-pub mod Cases

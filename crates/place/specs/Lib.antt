@@ -1,2 +1,0 @@
-pub mod Place
-pub mod Sited

@@ -1,4 +1,0 @@
-pub mod Cases
-pub mod Demand3
-pub mod Witness
-pub mod Unique

@@ -1,3 +1,0 @@
-pub mod Lists
-pub mod Single
-pub mod Stretches

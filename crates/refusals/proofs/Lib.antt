@@ -1,2 +1,0 @@
-pub mod Arena
-pub mod Numbers

@@ -1,0 +1,6 @@
+pub mod Chain
+pub mod Promises
+pub mod Granules
+pub mod Cases
+pub mod Arena
+pub mod Numbers

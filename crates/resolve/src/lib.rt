@@ -1,0 +1,250 @@
+// The refusals 1 to 9 and the tests behind 4, 5, 6 and 8: of the arena, the log, the GPI and the L1 table's place. From gpt.rs: `Error`,
+// `GranuleError`, and what is added to them.
+// Where an address lies: the refusals 1 to 8 in their order, once for every call. From gpt.rs: what `lookup` and `set` begin with.
+ghost use mathlib.Core.Path.{_≡_};
+ghost use mathlib.Core.Bool.{false};
+ghost use Prim.Native.Nat.{_≤_, _<_, _^_};
+ghost use Rattle.resolve.specs.Refusals.{refusalNumber, arenaBad, logShort, gpiBad, outside};
+ghost use Rattle.config.specs.Fields.{Listed};
+ghost use Rattle.resolve.specs.Place.{siteOf, located, placeOf, seeking};
+ghost use Rattle.resolve.specs.declared.Call.the-variants.{Plain};
+use config::Config;
+use config::Configured;
+use config::Widths;
+use gpi::Gpi;
+use gpi::Nibble;
+use gpi::Size;
+use l0::L0Entry;
+use pa::PA;
+
+// Why a call is refused: document 01's 1 to 9. The Rust's `Error` and `GranuleError`, and what is added to them.
+pub enum Refusal {
+    InvalidConfiguration,
+    GptNotInitialized,
+    FewL0Words,
+    BadArena,
+    ShortLog,
+    InvalidRequest,
+    InvalidL0Entry,
+    OutsideArena,
+    InvalidL1Entry,
+}
+
+// The paper's number of a refusal.
+pub fn number(r: Refusal) -> u64
+    ensures { λ n. ⌜ n ≡ refusalNumber r ⌝ }
+{
+    match r {
+        Refusal::InvalidConfiguration => 1,
+        Refusal::GptNotInitialized => 2,
+        Refusal::FewL0Words => 3,
+        Refusal::BadArena => 4,
+        Refusal::ShortLog => 5,
+        Refusal::InvalidRequest => 6,
+        Refusal::InvalidL0Entry => 7,
+        Refusal::OutsideArena => 8,
+        Refusal::InvalidL1Entry => 9,
+    }
+}
+
+// What a call asks besides an address: a set has its log's words and its GPI, as the number was read.
+pub enum Call {
+    Plain,
+    Set(usize, Nibble),
+}
+
+// The end of the physical addresses, 2^52.
+const TOP: u64 = 0x10_0000_0000_0000;
+
+// Whether the arena is out of order. Its end is never computed before it is known to be in order, so nothing wraps.
+pub fn arena_bad(base: PA, words: usize) -> bool
+    ensures { λ r. ⌜ r ≡ arenaBad (base .0) words ⌝ }
+{
+    if base.0 % 4096 != 0 {
+        return true;
+    }
+    if TOP < base.0 {
+        return true;
+    }
+    (TOP - base.0) / 8 < words as u64
+}
+
+pub fn log_short(call: Call) -> bool
+    ensures { λ r. ⌜ r ≡ logShort call ⌝ }
+{
+    match call {
+        Call::Plain => false,
+        Call::Set(n, _) => n < 52,
+    }
+}
+
+pub fn gpi_bad(c: Config, call: Call) -> bool
+    ensures { λ r. ⌜ r ≡ gpiBad c call ⌝ }
+{
+    match call {
+        Call::Plain => false,
+        Call::Set(_, n) => match n {
+            Nibble::Known(g) => !config::is_gpi_supported(c, g),
+            Nibble::Reserved => true,
+        },
+    }
+}
+
+// Whether a table at a isn't wholly inside an arena that is in order.
+pub fn is_outside(base: PA, words: usize, a: PA, n: usize) -> bool
+    requires { ⌜ arenaBad (base .0) words ≡ false ⌝ }
+    requires { ⌜ a .0 < 2 ^ 52 ⌝ }
+    requires { ⌜ n ≤ 2 ^ 23 ⌝ }
+    ensures { λ r. ⌜ r ≡ outside (base .0) words (a .0) n ⌝ }
+{
+    if a.0 < base.0 {
+        return true;
+    }
+    base.0 + 8 * (words as u64) < a.0 + 8 * (n as u64)
+}
+
+// What a call is lent, as far as the refusals go: the arena's words are counted and not read. The L0 words stand beside it.
+pub struct Ask {
+    pub config: Config,
+    pub words: usize,
+    pub base: PA,
+    pub address: PA,
+    pub call: Call,
+}
+
+// The L1 table as a part of the arena, and the address's place in it.
+pub struct Site {
+    // the arena's index of the table's first word
+    pub start: usize,
+    // the table's words
+    pub words: usize,
+    // the table's index of the address's word, and its granule there
+    pub index: usize,
+    pub granule: u64,
+    // the words of 2 MB, and the bytes of a granule
+    pub unit: usize,
+    pub grain: u64,
+}
+
+pub enum Place {
+    No(Refusal),
+    Block(Gpi),
+    Table(Site),
+}
+
+fn site_at(q: Ask, w: Widths, a: PA) -> Site
+    requires { ⌜ Listed w ⌝ }
+    requires { ⌜ q .base .0 ≤ a .0 ⌝ }
+    ensures { λ r. ⌜ r ≡ siteOf q w (a .0) ⌝ }
+{
+    let base = q.base;
+    let address = q.address;
+    Site {
+        start: ((a.0 - base.0) / 8) as usize,
+        words: config::l1_words(w),
+        index: config::l1_resolve(w, address),
+        granule: config::granule_resolve(w, address),
+        unit: config::size_words(w, Size::MB2),
+        grain: config::granule_bytes(w),
+    }
+}
+
+// From refusal 3 on: each test refuses, or the next goes on.
+fn locate(l0: &[u64], q: Ask, w: Widths) -> Place
+    requires { ⌜ Listed w ⌝ }
+    ensures { λ r. ⌜ r ≡ located q (now (l0 .entry)) w ⌝ }
+{
+    let c = q.config;
+    let base = q.base;
+    let address = q.address;
+    let call = q.call;
+    if (l0.len() as u64) < config::l0_entries(w) {
+        return Place::No(Refusal::FewL0Words);
+    }
+    if arena_bad(base, q.words) {
+        return Place::No(Refusal::BadArena);
+    }
+    if log_short(call) {
+        return Place::No(Refusal::ShortLog);
+    }
+    if config::pow2(w.pps) <= address.0 {
+        return Place::No(Refusal::InvalidRequest);
+    }
+    if gpi_bad(c, call) {
+        return Place::No(Refusal::InvalidRequest);
+    }
+    let i = config::l0_resolve(w, address);
+    match l0::l0_entry(l0[i]) {
+        L0Entry::Block(g) => Place::Block(g),
+        L0Entry::Table(a) => {
+            if is_outside(base, q.words, a, config::l1_words(w)) {
+                return Place::No(Refusal::OutsideArena);
+            }
+            Place::Table(site_at(q, w, a))
+        }
+        L0Entry::Invalid => Place::No(Refusal::InvalidL0Entry),
+    }
+}
+
+// Where an address lies, or why it is refused.
+pub fn resolve(l0: &[u64], q: Ask) -> Place
+    ensures { λ r. ⌜ r ≡ placeOf q (now (l0 .entry)) ⌝ }
+{
+    let c = q.config;
+    match config::configure(c) {
+        Configured::Ok(w) => locate(l0, q, w),
+        Configured::InvalidConfiguration => Place::No(Refusal::InvalidConfiguration),
+        Configured::GptNotInitialized => Place::No(Refusal::GptNotInitialized),
+    }
+}
+
+// As `locate`, for a call that is no set: neither a log nor a GPI is asked about.
+fn seek(l0: &[u64], q: Ask, w: Widths) -> Place
+    requires { ⌜ Listed w ⌝ }
+    requires { ⌜ q .call ≡ Plain ⌝ }
+    ensures { λ r. ⌜ r ≡ located q (now (l0 .entry)) w ⌝ }
+{
+    let base = q.base;
+    let x = q.address;
+    if (l0.len() as u64) < config::l0_entries(w) {
+        return Place::No(Refusal::FewL0Words);
+    }
+    if arena_bad(base, q.words) {
+        return Place::No(Refusal::BadArena);
+    }
+    if config::pow2(w.pps) <= x.0 {
+        return Place::No(Refusal::InvalidRequest);
+    }
+    let i = config::l0_resolve(w, x);
+    match l0::l0_entry(l0[i]) {
+        L0Entry::Block(g) => Place::Block(g),
+        L0Entry::Table(a) => {
+            if is_outside(base, q.words, a, config::l1_words(w)) {
+                return Place::No(Refusal::OutsideArena);
+            }
+            Place::Table(site_at(q, w, a))
+        }
+        L0Entry::Invalid => Place::No(Refusal::InvalidL0Entry),
+    }
+}
+
+// As `resolve`, for a lookup and for the dump's walk. In the C interface a lookup is its one caller, so that the compiler lays it in there: that is
+// then without a call and without a place in memory, which is what makes it no slower than the Rust's.
+pub fn find(l0: &[u64], c: Config, words: usize, base: PA, address: PA) -> Place
+    ensures { λ r. ⌜ r ≡ placeOf (seeking c words (base .0) (address .0)) (now (l0 .entry)) ⌝ }
+{
+    let q = Ask {
+        config: c,
+        words,
+        base,
+        address,
+        call: Call::Plain,
+    };
+    match config::configure(c) {
+        Configured::Ok(w) => seek(l0, q, w),
+        Configured::InvalidConfiguration => Place::No(Refusal::InvalidConfiguration),
+        Configured::GptNotInitialized => {
+            return Place::No(Refusal::GptNotInitialized);
+        }
+    }
+}

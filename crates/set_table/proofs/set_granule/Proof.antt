@@ -1,0 +1,72 @@
+-- `set_table::set_granule` meets its contract: the granule store, its barriers, the scans, the fuse.
+-- Assumes nothing.
+use mathlib.Core.Path.{_∙_}
+use native.Mathlib.Omega.{arith}
+use borrow.Author.Needs.{needs}
+use Rattle.stores.proofs.Places.{still}
+use Rattle.set_table.proofs.Sets.{fuse-room, grant}
+use Rattle.set_table.proofs.set_granule.Statement.{statement}
+use Rattle.set_table.proofs.set_granule.Tie as tie
+
+store-granule-requires : tie.Need-store-granule-requires
+store-granule-requires c κs =
+    let s = c .before .before .before .before .before .before .before in
+    (s .pre .0 .index, record { arena = s .pre .1 .1 .arena; room = omega (arith, s .pre .1 .1 .room); few = omega (arith, s .pre .1 .1 .few) })
+
+barriers-requires : tie.Need-barriers-requires
+barriers-requires c κs =
+    let d = c .before .before .before .before .before in
+    let s = d .before .before .before .before .before .before .before .before in
+    omega (arith, s .pre .1 .1 .room, d .store-granule .ensures .records, d .store-granule .kept .1 .0)
+
+fuse-descriptors-requires : tie.Need-fuse-descriptors-requires
+fuse-descriptors-requires c κs =
+    let d = c .before .before .before .before .before .before .before .before .before in
+    let s = d .before .before .before .before .before .before .before .before in
+    still (d .store-granule .ensures) (s .pre .0)
+
+fuse-requires : tie.Need-fuse-requires
+fuse-requires c κs =
+    let b = c .before .before .before .before .before .before in
+    let d = b .before .before .before .before .before .before in
+    let s = d .before .before .before .before .before .before .before .before in
+    (still (d .store-granule .ensures) (s .pre .0), fuse-room (s .pre .1 .1) (d .store-granule .ensures) (b .barriers .ensures _ _))
+
+same-length : tie.Need-same-length
+same-length c =
+    let f = c .before .before .before .before .before in
+    let d = f .before .before .before .before .before .before .before .before .before .before .before .before .before in
+    f .fuse .kept .0 ∙ d .store-granule .kept .0
+
+same-length-2 : tie.Need-same-length-2
+same-length-2 c =
+    let f = c .before .before .before .before .before in
+    let b = f .before .before .before .before .before .before .before in
+    let d = b .before .before .before .before .before .before in
+    f .fuse .kept .1 .0 ∙ b .barriers .kept .0 ∙ d .store-granule .kept .1 .0
+
+returns : tie.Need-returns
+returns c =
+    let f = c .before .before .before .before .before in
+    let m = f .before .before .before in
+    let b = m .before .before .before .before in
+    let d = b .before .before .before .before .before .before in
+    let w = d .before .before .before in
+    let s = w .before .before .before .before .before in
+    grant (s .args .q) _ (m .fuse-descriptors .result) (w .set-gpi .ensures) (d .store-granule .ensures) (b .barriers .ensures _ _) (m .fuse-descriptors .ensures) (f .fuse .ensures) (c .answer-of .ensures)
+
+pub set-granule-spec : {M : Type 1} → statement M
+set-granule-spec =
+    tie.close
+    (tie.spec
+    (λ c. search needs)
+    (λ c. search needs)
+    (λ c κs. search needs)
+    store-granule-requires
+    barriers-requires
+    fuse-descriptors-requires
+    fuse-requires
+    (λ c κs. search needs)
+    same-length
+    same-length-2
+    returns)
