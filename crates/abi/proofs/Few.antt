@@ -1,6 +1,5 @@
 -- A set's answer and counts are small, whatever it is asked: at most 13 records, and each word of two ranges of 512 MB stored once, and the granule.
 -- A mend stores at most the words of its table. So the packed number's parts don't run into one another.
--- Assumes nothing.
 use mathlib.Core.Path.{_≡_, refl}
 use mathlib.Core.Bool.{Bool, true, false}
 use mathlib.Core.List.{List, _∷_, _++_}
@@ -17,23 +16,26 @@ use Rattle.theory.specs.Events.{granule, count}
 use Rattle.theory.specs.Set.{Fused, nowhere, level, refused, barriers, breaks, broken, brokenBarriers, newWord, fusing, fused, storeEvents, setEvents}
 use Rattle.theory.proofs.Mend.{mendCount-is, differing-few}
 use Rattle.theory.proofs.Set.{at-most-13, count-append, count-fill, count-shatter, fusing-level}
-use Rattle.l1.specs.Arm.{arm}
-use Rattle.l1.proofs.Arm.{arm-laws}
-use Rattle.config.specs.declared.Config.{Config}
+use Rattle.theory.proofs.Arena.{table-length}
+use Rattle.config.specs.Format.{formatOf}
+use Rattle.config.proofs.Format.{format-laws}
 use Rattle.resolve.specs.declared.Site.{Site}
 use Rattle.resolve.specs.declared.Place.{Place}
 use Rattle.resolve.specs.declared.Place.the-variants.{No, Block, Table}
 use Rattle.resolve.specs.declared.Refusal.{Refusal}
 use Rattle.resolve.specs.declared.Refusal.the-variants.{InvalidRequest, InvalidL1Entry}
-use Rattle.resolve.specs.Place.{placeOf, tableOf}
+use Rattle.resolve.specs.declared.Call.the-variants.{Set}
+use Rattle.resolve.specs.Lent.{Lent, placeFor, placed, tableIn}
 use Rattle.resolve.proofs.Numbers.{refusal-number}
-use Rattle.resolve.proofs.Promises.{resolved, table-length}
+use Rattle.resolve.proofs.Found.{found}
 use Rattle.stores.specs.declared.Tally.{Tally}
 use Rattle.set_table.specs.Table.{answerOf}
 use Rattle.gpt.specs.declared.Changed.the-variants.{Refused}
-use Rattle.gpt.specs.Lookup.{plain}
-use Rattle.gpt.specs.Set.{changedBy, siteSet, asking, setAt, setOf}
-use Rattle.mend.specs.Outcome.{mendedAt, mendOf}
+use Rattle.gpt.specs.Set.{changedBy, siteSet, setAt, setOf}
+use Rattle.mend.specs.declared.Named.{Named}
+use Rattle.mend.specs.declared.Named.the-variants.{At, Refused as Unnamed}
+use Rattle.mend.specs.Outcome.{namedBy, mendedAt, mendOf}
+use Rattle.mend.proofs.Sites.{sited}
 use Rattle.abi.specs.Packed.{Small, Few}
 
 -- ---- how many stores
@@ -83,43 +85,42 @@ by nowhere t p q = record { number = omega arith; records = p; stores = q }
 by (level l) t p q = record { number = omega arith; records = p; stores = q }
 by refused t p q = record { number = omega arith; records = p; stores = q }
 
-at-site : (s : Site) → s .unit ≤ 32 → (x : ℕ) (h : Gpi) (A L : List ℕ) → Small ((siteSet s x h A L) .answer)
+at-site : (q : Lent) (L : List ℕ) (s : Site) → s .unit ≤ 32 → (x : ℕ) (h : Gpi) → Small (siteSet q L s x h .answer)
 unfolding siteSet
-at-site s u x h A L = go (arm .valid (at (tableOf s A) (s .index))) refl
+at-site q L s u x h = go (formatOf (q .config) .valid (at (tableIn q s) (s .index))) refl
   where
-    go : (v : Bool) → arm .valid (at (tableOf s A) (s .index)) ≡ v → Small ((siteSet s x h A L) .answer)
+    go : (v : Bool) → formatOf (q .config) .valid (at (tableIn q s) (s .index)) ≡ v → Small (siteSet q L s x h .answer)
     go true v =
         rw v
-        (by (fusing arm (s .unit) (tableOf s A) (s .index) (s .granule) (num h)) _
-        (at-most-13 arm arm-laws (s .unit) (tableOf s A) (s .index) (s .granule) (num h) x (s .grain))
-        (stores-few arm arm-laws (s .unit) u (tableOf s A) (s .index) (s .granule) (num h) x (s .grain)))
+        (by (fusing (formatOf (q .config)) (s .unit) (tableIn q s) (s .index) (s .granule) (num h)) _
+        (at-most-13 (formatOf (q .config)) (format-laws (q .config)) (s .unit) (tableIn q s) (s .index) (s .granule) (num h) x (s .grain))
+        (stores-few (formatOf (q .config)) (format-laws (q .config)) (s .unit) u (tableIn q s) (s .index) (s .granule) (num h) x (s .grain)))
     go false v = rw v (none InvalidL1Entry)
 
-pub set-small : (c : Config) (T A : List ℕ) (b : ℕ) (L : List ℕ) (x g : ℕ) → Small ((setOf c T A b L x g) .answer)
+pub set-small : (q : Lent) (L : List ℕ) (x g : ℕ) → Small (setOf q L x g .answer)
 unfolding setOf setAt
-set-small c T A b L x g = go (gpiAt g) (placeOf (asking c A b L x (gpiAt g)) T) refl
+set-small q L x g = go (gpiAt g) (placeFor q (Set (length L) (gpiAt g)) x) refl
   where
-    go : (n : Nibble) (p : Place) → placeOf (asking c A b L x (gpiAt g)) T ≡ p → Small ((setAt x A L n p) .answer)
+    go : (n : Nibble) (p : Place) → placeFor q (Set (length L) (gpiAt g)) x ≡ p → Small (setAt q L x n p .answer)
     go n (No r) e = none r
     go n (Block h) e = none InvalidRequest
     go Reserved (Table s) e = none InvalidRequest
-    go (Known h) (Table s) e = at-site s (resolved _ _ _ e .1 .sited .unit-most) x h A L
+    go (Known h) (Table s) e = at-site q L s (found q _ x s e .1 .sited .unit-most) x h
 
 -- ---- a mend's
 
-pub mend-small : (c : Config) (T A : List ℕ) (b x k : ℕ) → Few ((mendOf c T A b x k) .answer)
+pub mend-small : (q : Lent) (x k : ℕ) → Few (mendOf q x k .answer)
 unfolding mendOf mendedAt
-mend-small c T A b x k = go (placeOf (plain c A b x) T) refl
+mend-small q x k = go (namedBy (placed q x)) refl
   where
-    go : (p : Place) → placeOf (plain c A b x) T ≡ p → Few ((mendedAt k A p) .answer)
-    go (No r) e = omega arith
-    go (Block h) e = omega arith
-    go (Table s) e =
-        let h = resolved _ _ _ e .1 .sited in
+    go : (p : Named) → namedBy (placed q x) ≡ p → Few (mendedAt q k p .answer)
+    go (Unnamed r) e = omega arith
+    go (At s) e =
+        let h = sited q x s e in
         omega (
           arith,
           h .most,
-          table-length A s h,
-          mendCount-is arm (s .unit) k (tableOf s A),
-          differing-few (at (tableOf s A)) (normalWord arm (s .unit) (at (tableOf s A))) 0 (length (tableOf s A)),
+          table-length (s .start) (s .words) (q .arena) (h .fits),
+          mendCount-is (formatOf (q .config)) (s .unit) k (tableIn q s),
+          differing-few (at (tableIn q s)) (normalWord (formatOf (q .config)) (s .unit) (at (tableIn q s))) 0 (length (tableIn q s)),
         )

@@ -10,10 +10,10 @@ use Rattle.abi.specs.Packed.{changedPacked, mendedPacked}
 -- what a set hands back and leaves
 pub record SetLeft (o : Outcome) (r : ℕ) (A L : List ℕ) : Type 0 where
   pub answer : r ≡ changedPacked (o .answer)
-  pub arena : A ≡ o .arena
+  pub arena : A ≡ o .left .arena
   pub log : L ≡ o .log
 
 -- what a mend hands back and leaves
 pub record MendLeft (o : MendOutcome) (r : ℕ) (A : List ℕ) : Type 0 where
   pub answer : r ≡ mendedPacked (o .answer)
-  pub arena : A ≡ o .arena
+  pub arena : A ≡ o .left .arena

@@ -2,3 +2,4 @@ pub mod Bounds
 pub mod Cases
 pub mod Geometry
 pub mod IndexCases
+pub mod Format

@@ -1,6 +1,5 @@
 -- The runs of addresses that answer alike: document 01, "Neighbouring equal answers share a line". Defined over addresses, one at a time; that the
 -- code passes whole granules and whole L0 entries at once is its own affair.
--- Assumes nothing: these are definitions.
 use mathlib.Core.Path.{_≡_}
 use mathlib.Core.Bool.{Bool, false, cond}
 use mathlib.Core.List.{List, [], _∷_}
@@ -14,6 +13,7 @@ use Rattle.config.specs.Fields.{configuredOf}
 use Rattle.config.specs.Index.{l0Entries}
 use Rattle.resolve.specs.declared.Refusal.the-variants.{InvalidL1Entry}
 use Rattle.resolve.specs.Refusals.{arenaBad}
+use Rattle.resolve.specs.Lent.{Lent}
 use Rattle.gpt.specs.declared.Looked.{Looked}
 use Rattle.gpt.specs.declared.Looked.the-variants.{Refused}
 use Rattle.gpt.specs.Lookup.{lookedNumber, lookedGpi, granted}
@@ -49,10 +49,10 @@ total w = 2 ^ (w .pps)
 -- ---- what the code finds
 
 -- a configuration and tables that no refusal 1 to 4 shuts out: w are the widths
-pub record Open (c : Config) (L A : List ℕ) (b : ℕ) (w : Widths) : Type 0 where
-  pub configured : configuredOf c ≡ Taken w
-  pub enough : l0Entries w ≤ length L
-  pub arena : arenaBad b (length A) ≡ false
+pub record Open (q : Lent) (w : Widths) : Type 0 where
+  pub configured : configuredOf (q .config) ≡ Taken w
+  pub enough : l0Entries w ≤ length (q .l0)
+  pub arena : arenaBad (q .base) (length (q .arena)) ≡ false
 
 -- the answer where a table's view holds this; what lies outside the table is never asked (`view-is-lookup`)
 abbrev pub answerOf : Config → Held → Looked

@@ -1,6 +1,7 @@
 // The runs of addresses that a lookup answers alike: each is one line of the dump. Added by the port.
 ghost use mathlib.Core.Path.{_≡_};
 ghost use Prim.Native.Nat.{_+_, _-_, _*_, _/_, _%_, _^_, _≤_, _<_};
+ghost use Rattle.resolve.specs.Lent.{lent};
 ghost use Rattle.gpt.specs.Lookup.{lookupOf};
 ghost use Rattle.dump_runs.specs.Runs.{codeOf, answerOf, total, Open, Holds, First};
 use config::Config;
@@ -59,9 +60,9 @@ fn last_of(a: u64, k: u64) -> u64
 // The aligned stretch around an address that surely answers alike: a granule of a table, whose answer is read through the table's view, else the
 // whole L0 entry.
 fn piece_at(c: Config, l0: &[u64], arena: &[u64], base: PA, w: Widths, a: u64) -> Piece
-    requires { ⌜ Open c (now l0) (now arena) (base .0) w ⌝ }
+    requires { ⌜ Open (lent c (now l0) (now arena) (base .0)) w ⌝ }
     requires { ⌜ a < total w ⌝ }
-    ensures { λ r. ⌜ Holds (lookupOf c (now (l0 .entry)) (now (arena .entry)) (base .0)) (total w) a r ⌝ }
+    ensures { λ r. ⌜ Holds (lookupOf (lent c (now (l0 .entry)) (now (arena .entry)) (base .0))) (total w) a r ⌝ }
 {
     match resolve::find(l0, c, arena.len(), base, PA(a)) {
         Place::No(r) => Piece {
@@ -86,9 +87,9 @@ fn piece_at(c: Config, l0: &[u64], arena: &[u64], base: PA, w: Widths, a: u64) -
 
 // The first run from an address on: pieces are walked while they answer alike.
 pub fn next_run(c: Config, l0: &[u64], arena: &[u64], base: PA, w: Widths, a: u64) -> Run
-    requires { ⌜ Open c (now l0) (now arena) (base .0) w ⌝ }
+    requires { ⌜ Open (lent c (now l0) (now arena) (base .0)) w ⌝ }
     requires { ⌜ a < total w ⌝ }
-    ensures { λ r. ⌜ First (lookupOf c (now (l0 .entry)) (now (arena .entry)) (base .0)) (total w) a r ⌝ }
+    ensures { λ r. ⌜ First (lookupOf (lent c (now (l0 .entry)) (now (arena .entry)) (base .0))) (total w) a r ⌝ }
 {
     let end = config::pow2(w.pps);
     let p = piece_at(c, l0, arena, base, w, a);

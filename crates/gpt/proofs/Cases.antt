@@ -1,18 +1,17 @@
--- Worked examples of a lookup, by computation alone: document 01's C1 to C6 and C12, and its neighbours.
--- Assumes nothing.
+-- Worked examples of a lookup, by computation alone: neighbours of document 01's C1 to C6, which stand in the crate `outcomes`.
 use mathlib.Core.Path.{_≡_, refl}
-use mathlib.Core.Bool.{Bool, true, false}
-use mathlib.Core.List.{List, [], _∷_}
+use mathlib.Core.List.{[], _∷_}
 use Prim.Native.Nat.{ℕ}
 use lib.ListN.{replicate, set}
 use Rattle.gpi.specs.declared.Gpi.the-variants.{NonSecure, Root, Realm}
 use Rattle.granules.specs.Nibs.{nibs}
 use Rattle.l0.specs.L0.{l0Of}
 use Rattle.l1.specs.L1.{l1Of}
-use Rattle.config.specs.declared.Config.{Config}
 use Rattle.config.specs.Fields.{configuredOf}
 use Rattle.resolve.specs.Refusals.{arenaBad, outside}
 use Rattle.resolve.specs.Place.{siteOf, located, placeOf}
+use Rattle.resolve.specs.Lent.{lent}
+use Rattle.resolve.specs.B.{fieldsB, l0B, arenaB, arrangementB, inB}
 use Rattle.gpt.specs.declared.Looked.{Looked}
 use Rattle.gpt.specs.declared.Looked.the-variants.{Ok}
 use Rattle.gpt.specs.Lookup.{lookedNumber, lookedGpi, lookedAt, lookupOf}
@@ -22,80 +21,34 @@ unfoldable pub opened : ℕ
 unfolding nibs l0Of l1Of configuredOf arenaBad outside siteOf located placeOf lookedAt lookupOf
 opened = 0
 
--- arrangement B
-abbrev fields : ℕ → ℕ → Bool → Config
-fields p l on =
-    record { pps = p; pgs = 1; l0gptsz = l; gpc = on; sa = false; nsp = false; na6 = false; na7 = false; nso = false; gdi = false; gpc2 = false }
-
-abbrev l0 : List ℕ
-l0 = 0x91 ∷ 0x8000_0003 ∷ 0x01 ∷ 0x0 ∷ []
-
-abbrev roots : ℕ → List ℕ
-roots n = replicate n 0x3A1
-
-abbrev inB : ℕ → Looked
-inB x = lookupOf (fields 0 0 true) l0 (roots 1024) 0x8000_0000 x
-
 -- B with this word first in the arena, which is the word of 0x40000000 to 0x400FFFFF
 abbrev with : ℕ → ℕ → Looked
-with v x = lookupOf (fields 0 0 true) l0 (set (roots 1024) 0 v) 0x8000_0000 x
-
--- ---- the cases of the document
-
-c1 : inB 0x3FFF_FFFF ≡ Ok NonSecure
-unfolding opened
-c1 = refl
-
-c2 : inB 0x4000_0000 ≡ Ok Root
-unfolding opened
-c2 = refl
-
-c3 : lookedNumber (inB 0xC000_0000) ≡ 7
-unfolding opened
-c3 = refl
-
-c4 : lookedNumber (inB 0x1_0000_0000) ≡ 6
-unfolding opened
-c4 = refl
-
-c5 : lookedNumber (with 0x0A1 0x4000_0000) ≡ 9
-unfolding opened
-c5 = refl
-
-c6 :
-    (lookedNumber (lookupOf (fields 0 4 true) l0 (roots 1024) 0x8000_0000 0x4000_0000) ≡ 1)
-    × (lookedNumber (lookupOf (fields 0 4 false) l0 (roots 1024) 0x8000_0000 0x4000_0000) ≡ 2)
-unfolding opened
-c6 = (refl, refl)
-
-c12 : lookedNumber (lookupOf (fields 0 0 true) l0 (roots 1023) 0x8000_0000 0x4000_0000) ≡ 8
-unfolding opened
-c12 = refl
+with v x = lookupOf (inB (set arenaB 0 v)) x
 
 -- ---- the other refusals that a lookup has, and no GPI with them
 
-few : lookedNumber (lookupOf (fields 0 0 true) (0x91 ∷ []) (roots 1024) 0x8000_0000 0) ≡ 3
+few : lookedNumber (lookupOf (lent fieldsB (0x91 ∷ []) arenaB 0x8000_0000) 0) ≡ 3
 unfolding opened
 few = refl
 
-arena : lookedNumber (lookupOf (fields 0 0 true) l0 (roots 1024) 0x8000_0008 0) ≡ 4
+arena : lookedNumber (lookupOf (lent fieldsB l0B arenaB 0x8000_0008) 0) ≡ 4
 unfolding opened
 arena = refl
 
 -- a block of an unsupported GPI; an unsupported GPI in an L1 word, contiguous or granules
 unsupported :
-    (lookedNumber (lookupOf (fields 0 0 true) (0x41 ∷ 0 ∷ 0 ∷ 0 ∷ []) [] 0 0) ≡ 7)
+    (lookedNumber (lookupOf (lent fieldsB (0x41 ∷ 0 ∷ 0 ∷ 0 ∷ []) [] 0) 0) ≡ 7)
     × (lookedNumber (with 0x141 0x4000_0000) ≡ 9)
     × (lookedNumber (with 0x4 0x4000_0000) ≡ 9)
 unfolding opened
 unsupported = (refl, refl, refl)
 
-none : (lookedGpi (with 0x141 0x4000_0000) ≡ 0) × (lookedGpi (inB 0x4000_0000) ≡ 10)
+none : (lookedGpi (with 0x141 0x4000_0000) ≡ 0) × (lookedGpi (lookupOf arrangementB 0x4000_0000) ≡ 10)
 unfolding opened
 none = (refl, refl)
 
 -- 8 is told before 9: the arena is a word short, and its words are invalid
-outside-first : lookedNumber (lookupOf (fields 0 0 true) l0 (replicate 1023 0x2) 0x8000_0000 0x4000_0000) ≡ 8
+outside-first : lookedNumber (lookupOf (inB (replicate 1023 0x2)) 0x4000_0000) ≡ 8
 unfolding opened
 outside-first = refl
 
@@ -121,6 +74,6 @@ unfolding opened
 own-word = (refl, refl, refl)
 
 -- a table 512 words into the arena
-later : lookupOf (fields 0 0 true) l0 (set (replicate 1536 0x2) 512 0x1B1) 0x7FFF_F000 0x4000_0000 ≡ Ok Realm
+later : lookupOf (lent fieldsB l0B (set (replicate 1536 0x2) 512 0x1B1) 0x7FFF_F000) 0x4000_0000 ≡ Ok Realm
 unfolding opened
 later = refl

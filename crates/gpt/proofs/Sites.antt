@@ -1,41 +1,39 @@
 -- A set at a place of the arena, over plain lists: what the table's set asks is there, and what it made in the table is made in the arena.
--- Assumes nothing.
-use mathlib.Core.Path.{_≡_, refl, sym, ap, _∙_}
+use mathlib.Core.Path.{_≡_, refl, ap, _∙_}
 use mathlib.Core.Bool.{Bool, true, false}
 use mathlib.Core.List.{List}
 use Prim.Native.Nat.{ℕ, _+_, _*_, _≤_}
 use native.Mathlib.Omega.{arith}
-use borrow.Rule.Slice.PartMut.{putMid, put-same}
+use borrow.Rule.Slice.PartMut.{put-same}
 use lib.ListN.{length}
 use Rattle.gpi.specs.declared.Gpi.{Gpi}
-use Rattle.gpi.specs.Gpi.{num}
 use Rattle.theory.specs.Normal.{at, span}
-use Rattle.theory.specs.Stores.{Inside}
-use Rattle.theory.specs.Events.{stores}
-use Rattle.theory.proofs.Stores.{apply-part}
-use Rattle.theory.proofs.Set.{inside-set}
+use Rattle.theory.specs.Arena.{tableAt, laid}
+use Rattle.theory.proofs.Arena.{table-length}
 use Rattle.l1.specs.Arm.{arm}
-use Rattle.l1.proofs.Arm.{arm-laws}
+use Rattle.config.specs.declared.Config.{Config}
 use Rattle.resolve.specs.declared.Site.{Site}
-use Rattle.resolve.specs.Place.{tableOf}
 use Rattle.resolve.specs.Sited.{Sited}
-use Rattle.resolve.proofs.Promises.{table-length}
+use Rattle.resolve.specs.Lent.{lent}
 use Rattle.set_table.specs.declared.Answer.{Answer}
 use Rattle.stores.specs.Done.{Room, fresh, Placed}
 use Rattle.set_table.specs.Table.{setTableOf}
 use Rattle.set_table.specs.Table.{Made as TableMade}
 use Rattle.gpt.specs.declared.Changed.{Changed}
-use Rattle.gpt.specs.Set.{Made, changedBy, jobOf, siteEvents, siteSet}
+use Rattle.gpt.specs.Set.{Made, changedBy, jobOf, siteSet}
 
 span-most : (u : ℕ) → u ≤ 32 → span u 2 ≤ 8192
 unfolding span
 span-most u h = omega arith
 
 module _ (A L : List ℕ) {s : Site} (x : ℕ) (g : Gpi) (h : Sited (length A) s) where
-  long : length (tableOf s A) ≡ s .words
-  long = table-length A s h
+  abbrev table : List ℕ
+  table = tableAt (s .start) (s .words) A
 
-  pub placed : Placed (tableOf s A) (s .index) (s .unit)
+  long : length (tableAt (s .start) (s .words) A) ≡ s .words
+  long = table-length (s .start) (s .words) A (h .fits)
+
+  pub placed : Placed table (s .index) (s .unit)
   placed =
       record {
         least = h .unit-least;
@@ -45,7 +43,7 @@ module _ (A L : List ℕ) {s : Site} (x : ℕ) (g : Gpi) (h : Sited (length A) s
         small = omega (arith, long, h .most);
       }
 
-  pub roomy : 52 ≤ length L → Room (tableOf s A) L (s .start) fresh 13 (2 * span (s .unit) 2 + 1)
+  pub roomy : 52 ≤ length L → Room table L (s .start) fresh 13 (2 * span (s .unit) 2 + 1)
   roomy l =
       record {
         arena = omega (arith, long, h .fits, h .arena);
@@ -53,29 +51,20 @@ module _ (A L : List ℕ) {s : Site} (x : ℕ) (g : Gpi) (h : Sited (length A) s
         few = omega (arith, span-most (s .unit) (h .unit-most));
       }
 
-  inside : Inside (s .words) (stores (siteEvents s x g A))
-  inside =
-      rw long at (inside-set arm arm-laws (s .unit) (h .unit-least) (tableOf s A) (h .regions .0) (long ∙ h .regions .1) (s .index)
-      (omega (arith, long, h .index)) (s .granule) (num g) x (s .grain))
-
   -- what the set of the table made is what the set of the site makes
-  pub made : {p L′ : List ℕ} {a : Answer} {r : Changed} → TableMade (setTableOf (jobOf s x g) (tableOf s A) L) a p L′ → r ≡ changedBy a
-      → Made (siteSet s x g A L) r (putMid (s .start) (s .words) A p) L′
+  pub made : {p L′ : List ℕ} {a : Answer} {r : Changed} → TableMade (setTableOf (jobOf s x g) table L) a p L′ → r ≡ changedBy a
+      → (c : Config) (l : List ℕ) (b : ℕ) → Made (siteSet (lent c l A b) L s x g) r (laid (s .start) (s .words) A p) L′
   unfolding siteSet setTableOf
-  made {p} {L′} {a} {r} m e = go (arm .valid (at (tableOf s A) (s .index))) refl
+  made {p} {L′} {a} {r} m e c l b = go (arm .valid (at table (s .index))) refl
     where
-      go : (v : Bool) → arm .valid (at (tableOf s A) (s .index)) ≡ v → Made (siteSet s x g A L) r (putMid (s .start) (s .words) A p) L′
+      go : (v : Bool) → arm .valid (at table (s .index)) ≡ v → Made (siteSet (lent c l A b) L s x g) r (laid (s .start) (s .words) A p) L′
       go true v =
           let n = rw v at m in
-          rw v record {
-            answer = e ∙ ap changedBy (n .answer);
-            arena = ap (putMid (s .start) (s .words) A) (n .table) ∙ sym (apply-part A (s .start) (s .words) (h .fits) (stores (siteEvents s x g A)) inside);
-            log = n .log;
-          }
+          rw v record { answer = e ∙ ap changedBy (n .answer); arena = ap (laid (s .start) (s .words) A) (n .table); log = n .log }
       go false v =
           let n = rw v at m in
           rw v record {
             answer = e ∙ ap changedBy (n .answer);
-            arena = ap (putMid (s .start) (s .words) A) (n .table) ∙ put-same (s .start) (s .words) A;
+            arena = ap (laid (s .start) (s .words) A) (n .table) ∙ put-same (s .start) (s .words) A;
             log = n .log;
           }

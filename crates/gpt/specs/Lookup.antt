@@ -1,24 +1,21 @@
--- What a lookup answers, for every input: document 01, "Numbers handed back" and "Words". The cut's theorem speaks of this very definition.
--- Assumes nothing: these are definitions.
+-- What a lookup answers, for every input: document 01, "Numbers handed back" and "Words". Demand 3 speaks of this very definition.
 use mathlib.Core.Bool.{cond}
-use mathlib.Core.List.{List}
 use Prim.Native.Nat.{ℕ}
-use lib.ListN.{length, getD}
 use Rattle.gpi.specs.declared.Gpi.{Gpi}
 use Rattle.gpi.specs.declared.Nibble.{Nibble}
 use Rattle.gpi.specs.declared.Nibble.the-variants.{Known, Reserved}
 use Rattle.gpi.specs.Gpi.{num}
+use Rattle.theory.specs.Normal.{at}
 use Rattle.l1.specs.L1.{readAt}
 use Rattle.config.specs.declared.Config.{Config}
 use Rattle.config.specs.Fields.{supportedOf}
-use Rattle.resolve.specs.declared.Ask.{Ask}
 use Rattle.resolve.specs.declared.Place.{Place}
 use Rattle.resolve.specs.declared.Place.the-variants.{No, Block, Table}
 use Rattle.resolve.specs.declared.Refusal.{Refusal}
 use Rattle.resolve.specs.declared.Refusal.the-variants.{InvalidL0Entry, InvalidL1Entry}
 use Rattle.resolve.specs.declared.Site.{Site}
 use Rattle.resolve.specs.Refusals.{refusalNumber}
-use Rattle.resolve.specs.Place.{placeOf, seeking, tableOf}
+use Rattle.resolve.specs.Lent.{Lent, placed, tableIn}
 use Rattle.gpt.specs.declared.Looked.{Looked}
 use Rattle.gpt.specs.declared.Looked.the-variants.{Ok, Refused}
 
@@ -40,20 +37,16 @@ abbrev pub judged : Config → Nibble → Looked
 judged c (Known g) = granted c g InvalidL1Entry
 judged c Reserved = Refused InvalidL1Entry
 
--- what an arena reads at a site: the granule of the address's word in its table
-abbrev pub readIn : List ℕ → Site → Nibble
-readIn A s = readAt (getD (tableOf s A) (s .index) 0) (s .granule)
+-- what is read at a site: the granule of the address's word in its table
+abbrev pub readIn : Lent → Site → Nibble
+readIn q s = readAt (at (tableIn q s) (s .index)) (s .granule)
 
 -- by the place of the address; 7: "lookup on a block of unsupported GPI"
-unfoldable pub lookedAt : Config → List ℕ → Place → Looked
-lookedAt c A (No r) = Refused r
-lookedAt c A (Block g) = granted c g InvalidL0Entry
-lookedAt c A (Table s) = judged c (readIn A s)
+unfoldable pub lookedAt : Lent → Place → Looked
+lookedAt q (No r) = Refused r
+lookedAt q (Block g) = granted (q .config) g InvalidL0Entry
+lookedAt q (Table s) = judged (q .config) (readIn q s)
 
--- what a call that is no set asks: of the arena A only its length
-abbrev pub plain : Config → List ℕ → ℕ → ℕ → Ask
-plain c A b x = seeking c (length A) b x
-
--- the lookup of the address x: configuration, lent L0 words and arena, the arena's base
-unfoldable pub lookupOf : Config → List ℕ → List ℕ → ℕ → ℕ → Looked
-lookupOf c L A b x = lookedAt c A (placeOf (plain c A b x) L)
+-- the lookup of the address x
+unfoldable pub lookupOf : Lent → ℕ → Looked
+lookupOf q x = lookedAt q (placed q x)

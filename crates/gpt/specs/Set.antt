@@ -1,5 +1,4 @@
 -- What a set answers and leaves, for every input: document 01, "Numbers handed back" and "Set, step by step".
--- Assumes nothing: these are definitions.
 use mathlib.Core.Path.{_≡_}
 use mathlib.Core.Bool.{cond}
 use mathlib.Core.List.{List}
@@ -11,12 +10,10 @@ use Rattle.gpi.specs.declared.Nibble.the-variants.{Known, Reserved}
 use Rattle.gpi.specs.Gpi.{num, gpiAt}
 use Rattle.pa.specs.Pa.{pa}
 use Rattle.theory.specs.Normal.{at}
-use Rattle.theory.specs.Stores.{apply, shifted}
+use Rattle.theory.specs.Stores.{apply}
 use Rattle.theory.specs.Events.{Event, stores, logged}
 use Rattle.theory.specs.Set.{fusing}
-use Rattle.l1.specs.Arm.{arm}
-use Rattle.config.specs.declared.Config.{Config}
-use Rattle.resolve.specs.declared.Ask.{Ask}
+use Rattle.config.specs.Format.{formatOf}
 use Rattle.resolve.specs.declared.Call.the-variants.{Set}
 use Rattle.resolve.specs.declared.Site.{Site}
 use Rattle.resolve.specs.declared.Place.{Place}
@@ -24,7 +21,7 @@ use Rattle.resolve.specs.declared.Place.the-variants.{No, Block, Table}
 use Rattle.resolve.specs.declared.Refusal.{Refusal}
 use Rattle.resolve.specs.declared.Refusal.the-variants.{InvalidRequest, InvalidL1Entry}
 use Rattle.resolve.specs.Refusals.{refusalNumber}
-use Rattle.resolve.specs.Place.{placeOf, tableOf}
+use Rattle.resolve.specs.Lent.{Lent, placeFor, tableIn, layIn}
 use Rattle.stores.specs.declared.Job.{Job}
 use Rattle.set_table.specs.declared.Answer.{Answer}
 use Rattle.set_table.specs.declared.Answer.the-variants.{Done as Finished, Stopped as Cut, Invalid}
@@ -48,20 +45,21 @@ changedStores (Done t) = t .stores
 changedStores (Stopped t) = t .stores
 changedStores (Refused r) = 0
 
--- what a call leaves
+-- what a set answers, what it leaves of what it was lent, and the log
 pub record Outcome : Type 0 where
   pub answer : Changed
-  pub arena : List ℕ
+  pub left : Lent
   pub log : List ℕ
 
+-- the answer r, the arena A and the log L are that outcome
 pub record Made (o : Outcome) (r : Changed) (A L : List ℕ) : Type 0 where
   pub answer : r ≡ o .answer
-  pub arena : A ≡ o .arena
+  pub arena : A ≡ o .left .arena
   pub log : L ≡ o .log
 
 -- "Refusals 1 to 9 change nothing."
-abbrev pub refused : Refusal → List ℕ → List ℕ → Outcome
-refused r A L = record { answer = Refused r; arena = A; log = L }
+abbrev pub refused : Refusal → Lent → List ℕ → Outcome
+refused r q L = record { answer = Refused r; left = q; log = L }
 
 -- a table's answer as the call's; 9: "entry at the address invalid"
 abbrev pub changedBy : Answer → Changed
@@ -75,32 +73,28 @@ jobOf s x g =
     record { offset = s .start; index = s .index; granule = s .granule; unit = s .unit; gpi = g; address = pa x; grain = s .grain }
 
 -- the events of a set at a site
-abbrev pub siteEvents : Site → ℕ → Gpi → List ℕ → List Event
-siteEvents s x g A = eventsOf (jobOf s x g) (tableOf s A)
+abbrev pub siteEvents : Lent → Site → ℕ → Gpi → List Event
+siteEvents q s x g = eventsOf (jobOf s x g) (tableIn q s)
 
--- "the shattered words and the new granule stored", then what is fused, made where the table stands in the arena; the log with their records
--- over its front. Under refusal 10 the events end before the fuse (`fused` of the crate `theory`).
-unfoldable pub siteSet : Site → ℕ → Gpi → List ℕ → List ℕ → Outcome
-siteSet s x g A L =
-    cond (arm .valid (at (tableOf s A) (s .index)))
+-- "the shattered words and the new granule stored", then what is fused, made in the table; the log with their records over its front. Under
+-- refusal 10 the events end before the fuse (`fused` of the crate `theory`).
+unfoldable pub siteSet : Lent → List ℕ → Site → ℕ → Gpi → Outcome
+siteSet q L s x g =
+    cond (formatOf (q .config) .valid (at (tableIn q s) (s .index)))
     (record {
-      answer = changedBy (answerOf (fusing arm (s .unit) (tableOf s A) (s .index) (s .granule) (num g)) (tallyOf (siteEvents s x g A)));
-      arena = apply A (shifted (s .start) (stores (siteEvents s x g A)));
-      log = logged (s .start) 0 (siteEvents s x g A) L;
+      answer = changedBy (answerOf (fusing (formatOf (q .config)) (s .unit) (tableIn q s) (s .index) (s .granule) (num g)) (tallyOf (siteEvents q s x g)));
+      left = layIn q s (apply (tableIn q s) (stores (siteEvents q s x g)));
+      log = logged (s .start) 0 (siteEvents q s x g) L;
     })
-    (refused InvalidL1Entry A L)
+    (refused InvalidL1Entry q L)
 
 -- by the place of the address; 6: "set or mend on a valid L0 block". A set with an unknown GPI finds no place.
-unfoldable pub setAt : ℕ → List ℕ → List ℕ → Nibble → Place → Outcome
-setAt x A L n (No r) = refused r A L
-setAt x A L n (Block g) = refused InvalidRequest A L
-setAt x A L (Known g) (Table s) = siteSet s x g A L
-setAt x A L Reserved (Table s) = refused InvalidRequest A L
+unfoldable pub setAt : Lent → List ℕ → ℕ → Nibble → Place → Outcome
+setAt q L x n (No r) = refused r q L
+setAt q L x n (Block g) = refused InvalidRequest q L
+setAt q L x (Known g) (Table s) = siteSet q L s x g
+setAt q L x Reserved (Table s) = refused InvalidRequest q L
 
--- what a set asks: of the arena A and the log L only their lengths
-abbrev pub asking : Config → List ℕ → ℕ → List ℕ → ℕ → Nibble → Ask
-asking c A b L x n = record { config = c; words = length A; base = pa b; address = pa x; call = Set (length L) n }
-
--- the set of the address x to the GPI of number g: configuration, lent L0 words and arena, the arena's base, the lent log
-unfoldable pub setOf : Config → List ℕ → List ℕ → ℕ → List ℕ → ℕ → ℕ → Outcome
-setOf c T A b L x g = setAt x A L (gpiAt g) (placeOf (asking c A b L x (gpiAt g)) T)
+-- the set of the address x to the GPI of number g, with the log L lent
+unfoldable pub setOf : Lent → List ℕ → ℕ → ℕ → Outcome
+setOf q L x g = setAt q L x (gpiAt g) (placeFor q (Set (length L) (gpiAt g)) x)

@@ -1,9 +1,12 @@
 // The calls of the granule protection table. From gpt.rs: `GranuleProtection`, with what it holds passed as arguments.
 ghost use mathlib.Core.Path.{_≡_};
-ghost use Prim.Native.Nat.{_≤_, _<_};
+ghost use mathlib.Core.List.{List};
+ghost use Prim.Native.Nat.{ℕ, _≤_, _<_};
 ghost use lib.ListN.{length, getD};
 ghost use Rattle.l1.specs.L1.{readAt};
+ghost use Rattle.config.specs.declared.Config.{Config};
 ghost use Rattle.resolve.specs.Sited.{Sited};
+ghost use Rattle.resolve.specs.Lent.{lent};
 ghost use Rattle.gpt.specs.Lookup.{granted, judged, lookupOf};
 ghost use Rattle.gpt.specs.Set.{Made, changedBy, siteSet, setOf};
 use config::Config;
@@ -58,7 +61,7 @@ fn read_table(c: Config, table: &[u64], i: usize, k: u64) -> Looked
 
 // The GPI of an address. The Rust's `lookup`; its table behind a raw pointer is here a part of the arena.
 pub fn lookup(c: Config, l0: &[u64], arena: &[u64], base: PA, address: PA) -> Looked
-    ensures { λ r. ⌜ r ≡ lookupOf c (now (l0 .entry)) (now (arena .entry)) (base .0) (address .0) ⌝ }
+    ensures { λ r. ⌜ r ≡ lookupOf (lent c (now (l0 .entry)) (now (arena .entry)) (base .0)) (address .0) ⌝ }
 {
     match resolve::find(l0, c, arena.len(), base, address) {
         Place::No(r) => Looked::Refused(r),
@@ -92,7 +95,7 @@ fn changed_by(a: Answer) -> Changed
 fn set_site(arena: &mut [u64], log: &mut [u64], s: Site, address: PA, g: Gpi) -> Changed
     requires { ⌜ Sited (length (now arena)) s ⌝ }
     requires { ⌜ 52 ≤ length (now log) ⌝ }
-    ensures { λ r. ⌜ Made (siteSet s (address .0) g (now (arena .entry)) (now (log .entry))) r (now (arena .exit)) (now (log .exit)) ⌝ }
+    ensures { λ r. ⌜ ((c : Config) (l : List ℕ) (b : ℕ) → Made (siteSet (lent c l (now (arena .entry)) b) (now (log .entry)) s (address .0) g) r (now (arena .exit)) (now (log .exit))) ⌝ }
 {
     let o = s.start;
     let end = o + s.words;
@@ -119,7 +122,7 @@ pub fn set(
     address: PA,
     gpi: u64,
 ) -> Changed
-    ensures { λ r. ⌜ Made (setOf c (now (l0 .entry)) (now (arena .entry)) (base .0) (now (log .entry)) (address .0) gpi) r (now (arena .exit)) (now (log .exit)) ⌝ }
+    ensures { λ r. ⌜ Made (setOf (lent c (now (l0 .entry)) (now (arena .entry)) (base .0)) (now (log .entry)) (address .0) gpi) r (now (arena .exit)) (now (log .exit)) ⌝ }
 {
     let n = gpi::gpi_of(gpi);
     let q = Ask {

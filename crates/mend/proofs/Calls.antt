@@ -1,138 +1,93 @@
--- Mends of one table as calls, one after the other: where they lead, and what the check says then.
--- Assumes nothing.
-use mathlib.Core.Path.{_≡_, refl, sym, ap, ap₂, _∙_}
+-- Mends and checks of one table as calls, by any addresses that name it: where mends one after the other lead, and what the check says then.
+use mathlib.Core.Path.{_≡_, refl, sym, ap, _∙_, subst}
 use mathlib.Core.Bool.{Bool, true, false}
 use mathlib.Core.List.{List, [], _∷_, _++_, map}
 use Prim.Native.Nat.{ℕ, _≤_}
 use native.Mathlib.Omega.{arith}
-use borrow.Rule.Slice.PartMut.{same-len-mid, put-same, take-put}
-use lib.ListN.{length, take, drop}
-use lib.Seq.{length-take-le, take-at, drop-at}
+use lib.ListN.{length}
+use Rattle.theory.specs.Format.{Format, Laws}
 use Rattle.theory.specs.Normal.{normal}
 use Rattle.theory.specs.Mend.{mend, mends}
-use Rattle.theory.proofs.Lists.{map-length}
-use Rattle.theory.proofs.Normal.{length-normal, normal-normal}
-use Rattle.theory.proofs.Mend.{length-mend, flat-mends, mends-then}
-use Rattle.l1.specs.L1.{flat}
-use Rattle.l1.specs.Arm.{arm}
-use Rattle.l1.proofs.Arm.{arm-laws}
-use Rattle.config.specs.declared.Config.{Config}
-use Rattle.resolve.specs.declared.Place.the-variants.{Table}
+use Rattle.theory.proofs.Normal.{normal-normal}
+use Rattle.theory.proofs.Mend.{length-mend, mends-then}
+use Rattle.config.specs.declared.Widths.{Widths}
+use Rattle.config.specs.Format.{formatOf}
+use Rattle.config.proofs.Format.{format-laws}
 use Rattle.resolve.specs.declared.Site.{Site}
-use Rattle.resolve.specs.Place.{placeOf, tableOf}
-use Rattle.resolve.specs.Sited.{Sited}
-use Rattle.resolve.proofs.Promises.{table-length}
-use Rattle.pa.specs.Pa.{pa}
-use Rattle.resolve.specs.declared.Call.the-variants.{Plain}
-use Rattle.gpt.specs.Lookup.{plain}
-use Rattle.mend.specs.declared.Checked.the-variants.{Yes}
+use Rattle.resolve.specs.Lent.{Lent, layIn, Names}
+use Rattle.resolve.proofs.Found.{Found, lay-table, lay-again, lay-place}
 use Rattle.mend_table.specs.Normal.{isNormal}
-use Rattle.mend.specs.Outcome.{withTable, mendedNumber, checkedYes, mendedAt, mendOf, verdict, checkedAt, checkOf, mendsOf}
-use Rattle.mend.proofs.Sites.{sited}
 use Rattle.mend_table.proofs.Yes.{normal-yes, yes-the-one}
+use Rattle.mend.specs.declared.Checked.the-variants.{Yes}
+use Rattle.mend.specs.Outcome.{mendedNumber, namedBy, mendedAt, mendOf, verdict, checkedAt, checkOf}
+use Rattle.mend.specs.Mends.{Mend, AllName, Mending}
 
--- ---- an arena with another table in a table's place
+yes-true : (v : Bool) → verdict v ≡ Yes → v ≡ true
+yes-true true e = refl
+yes-true false e = let z : _≡_ {A = ℕ} 0 1 = cc in absurd (omega arith)
 
-module _ (A : List ℕ) (s : Site) (h : Sited (length A) s) (t : List ℕ) (e : length t ≡ s .words) where
-  pub with-length : length (withTable s A t) ≡ length A
-  with-length = same-len-mid (s .start) (s .words) A t (e ∙ sym (table-length A s h))
+limits : List Mend → List ℕ
+limits [] = []
+limits (m ∷ ms) = m .limit ∷ limits ms
 
-  with-drop : drop (s .start) (withTable s A t) ≡ t ++ drop (s .words) (drop (s .start) A)
-  with-drop = drop-at (take (s .start) A) (t ++ drop (s .words) (drop (s .start) A)) (s .start) (length-take-le (s .start) A (omega (arith, h .fits)))
+module _ {q : Lent} {x : ℕ} {w : Widths} {s : Site} (f : Found q x w s) where
+  abbrev F : Format
+  F = formatOf (q .config)
 
-  pub with-table : tableOf s (withTable s A t) ≡ t
-  with-table = ap (take (s .words)) with-drop ∙ take-at t (drop (s .words) (drop (s .start) A)) (s .words) e
+  L : Laws (formatOf (q .config))
+  L = format-laws (q .config)
 
-  pub with-with : (v : List ℕ) → withTable s (withTable s A t) v ≡ withTable s A v
-  with-with v =
-      ap₂ (λ (a b : List ℕ). a ++ (v ++ b)) (take-put (s .start) (s .words) A t (omega (arith, h .fits)))
-      (ap (drop (s .words)) with-drop ∙ drop-at t (drop (s .words) (drop (s .start) A)) (s .words) e)
+  -- ---- one call, with the table T in its place
 
--- ---- one call after another
-
-module _ (c : Config) (L : List ℕ) (b x : ℕ) where
-  -- of the arena only the length counts for the place
-  same-place : (A B : List ℕ) → length B ≡ length A → placeOf (plain c B b x) L ≡ placeOf (plain c A b x) L
-  same-place A B e = ap (λ (n : ℕ). placeOf (record { config = c; words = n; base = pa b; address = pa x; call = Plain }) L) e
-
-  module _ (A : List ℕ) (s : Site) (p : placeOf (plain c A b x) L ≡ Table s) where
-    -- it answers 0
-    pub mend-accepted : (k : ℕ) → mendedNumber (mendOf c L A b x k .answer) ≡ 0
+  module _ (T : List ℕ) (len : length T ≡ s .words) (y : ℕ) (n : Names w x y) where
+    -- a mend answers 0,
+    pub mend-answers : (k : ℕ) → mendedNumber (mendOf (layIn q s T) y k .answer) ≡ 0
     unfolding mendOf mendedAt
-    mend-accepted k = rw p refl
+    mend-answers k = rw (lay-place f T len y n) refl
 
-    mend-arena : (k : ℕ) → mendOf c L A b x k .arena ≡ withTable s A (mend arm (s .unit) k (tableOf s A))
+    -- and leaves the mended table
+    pub mend-leaves : (k : ℕ) → mendOf (layIn q s T) y k .left ≡ layIn q s (mend F (s .unit) k T)
     unfolding mendOf mendedAt
-    mend-arena k = rw p refl
+    mend-leaves k =
+        rw (lay-place f T len y n, lay-table f T len)
+        (lay-again f T len (mend F (s .unit) k T))
 
-    -- the arena with another table there: the address lies where it lay
-    module _ (t : List ℕ) (e : length t ≡ s .words) where
-      still : placeOf (plain c (withTable s A t) b x) L ≡ Table s
-      still = same-place A (withTable s A t) (with-length A s (sited c L A b x s p) t e) ∙ p
-
-  -- and a mend of it
-  mend-again : (A : List ℕ) (s : Site) (p : placeOf (plain c A b x) L ≡ Table s) (t : List ℕ) (e : length t ≡ s .words) (k : ℕ)
-      → mendOf c L (withTable s A t) b x k .arena ≡ withTable s A (mend arm (s .unit) k t)
-  mend-again A s p t e k =
-      let h = sited c L A b x s p in
-      mend-arena (withTable s A t) s (still A s p t e) k
-      ∙ ap (λ (v : List ℕ). withTable s (withTable s A t) (mend arm (s .unit) k v)) (with-table A s h t e)
-      ∙ with-with A s h t e (mend arm (s .unit) k t)
-
-  mends-with : (A : List ℕ) (s : Site) → placeOf (plain c A b x) L ≡ Table s → (ks : List ℕ) (t : List ℕ) → length t ≡ s .words
-      → mendsOf c L (withTable s A t) b x ks ≡ withTable s A (mends arm (s .unit) ks t)
-  unfolding mendsOf mends
-  mends-with A s p [] t e = refl
-  mends-with A s p (k ∷ ks) t e =
-      ap (λ (B : List ℕ). mendsOf c L B b x ks) (mend-again A s p t e k)
-      ∙ mends-with A s p ks (mend arm (s .unit) k t) (length-mend arm (s .unit) k t ∙ e)
-
-  -- ---- THE THEOREMS, of an address that lies in a table
-
-  module _ (A : List ℕ) (s : Site) (p : placeOf (plain c A b x) L ≡ Table s) where
-    -- Mends of any limits leave the arena with the table mended so often, and nothing else changed.
-    pub mends-leave : (ks : List ℕ) → mendsOf c L A b x ks ≡ withTable s A (mends arm (s .unit) ks (tableOf s A))
-    mends-leave ks =
-        ap (λ (B : List ℕ). mendsOf c L B b x ks) (sym (put-same (s .start) (s .words) A))
-        ∙ mends-with A s p ks (tableOf s A) (table-length A s (sited c L A b x s p))
-
-    mends-length : (ks : List ℕ) → length (mends arm (s .unit) ks (tableOf s A)) ≡ s .words
-    mends-length ks =
-        let h = sited c L A b x s p in
-        map-length flat (mends arm (s .unit) ks (tableOf s A)) (tableOf s A) (flat-mends arm arm-laws (s .unit) (h .unit-least) ks (tableOf s A))
-        ∙ table-length A s h
-
-    -- Each further one is accepted.
-    pub mends-accepted : (ks : List ℕ) (k : ℕ) → mendedNumber (mendOf c L (mendsOf c L A b x ks) b x k .answer) ≡ 0
-    mends-accepted ks k =
-        rw (mends-leave ks)
-        (mend-accepted (withTable s A (mends arm (s .unit) ks (tableOf s A))) s (still A s p (mends arm (s .unit) ks (tableOf s A)) (mends-length ks)) k)
-
-    -- Then one with a limit of at least the table's words: the arena has the normal table of the table at the start in its place.
-    pub mends-finish : (ks : List ℕ) (k : ℕ) → s .words ≤ k
-        → mendOf c L (mendsOf c L A b x ks) b x k .arena ≡ withTable s A (normal arm (s .unit) (tableOf s A))
-    mends-finish ks k m =
-        let h = sited c L A b x s p in
-        rw (mends-leave ks)
-        (mend-again A s p (mends arm (s .unit) ks (tableOf s A)) (mends-length ks) k
-        ∙ ap (withTable s A) (mends-then arm arm-laws (s .unit) (h .unit-least) ks k (tableOf s A) (omega (arith, table-length A s h))))
-
-    -- Of that arena the check says yes.
-    pub finished-yes : checkOf c L (withTable s A (normal arm (s .unit) (tableOf s A))) b x ≡ Yes
+    -- the check judges it
+    pub check-judges : checkOf (layIn q s T) y ≡ verdict (isNormal F (s .unit) T)
     unfolding checkOf checkedAt
-    finished-yes =
-        let h = sited c L A b x s p in
-        let e : length (normal arm (s .unit) (tableOf s A)) ≡ s .words = length-normal arm arm-laws (s .unit) (tableOf s A) ∙ table-length A s h in
-        rw (still A s p (normal arm (s .unit) (tableOf s A)) e, with-table A s h (normal arm (s .unit) (tableOf s A)) e)
-        (ap verdict
-        (normal-yes arm arm-laws (s .unit) (normal arm (s .unit) (tableOf s A)) (sym (normal-normal arm arm-laws (s .unit) (h .unit-least) (tableOf s A)))))
+    check-judges = rw (lay-place f T len y n, lay-table f T len) refl
 
-    -- A table on which it says yes is the one of its kind: the normal table of every table with the same granules.
-    pub yes-table : checkedYes (checkOf c L A b x) ≡ true → (t : List ℕ) → map flat (tableOf s A) ≡ map flat t → tableOf s A ≡ normal arm (s .unit) t
-    unfolding checkOf checkedAt
-    yes-table y t e =
-        yes-the-one arm arm-laws (s .unit) (tableOf s A) t e (sym (said (isNormal arm (s .unit) (tableOf s A))) ∙ (rw p at y))
-      where
-        said : (v : Bool) → checkedYes (verdict v) ≡ v
-        said true = refl
-        said false = refl
+    -- to which it says yes, of the tables of these granules, is the normal one
+    pub yes-table : checkOf (layIn q s T) y ≡ Yes → (t : List ℕ) → map (F .flat) T ≡ map (F .flat) t → T ≡ normal F (s .unit) t
+    yes-table v t e = yes-the-one F L (s .unit) T t e (yes-true (isNormal F (s .unit) T) (sym check-judges ∙ v))
+
+  -- ---- mends one after the other
+
+  mends-leave : (ms : List Mend) (m : Mend) → AllName w x (ms ++ m ∷ []) → (T : List ℕ) → length T ≡ s .words
+      → Mending (layIn q s T) (ms ++ m ∷ []) (layIn q s (mend F (s .unit) (m .limit) (mends F (s .unit) (limits ms) T)))
+  unfolding mends limits
+  mends-leave [] m n T len = (mend-answers T len (m .address) (n .0) (m .limit), mend-leaves T len (m .address) (n .0) (m .limit))
+  mends-leave (h ∷ ms) m n T len =
+      let u : List ℕ = mend F (s .unit) (h .limit) T in (
+        mend-answers T len (h .address) (n .0) (h .limit),
+        subst (λ (r : Lent). Mending r (ms ++ m ∷ []) (layIn q s (mend F (s .unit) (m .limit) (mends F (s .unit) (limits ms) u))))
+            (sym (mend-leaves T len (h .address) (n .0) (h .limit)))
+            (mends-leave ms m (n .1) u (length-mend F (s .unit) (h .limit) T ∙ len)),
+      )
+
+  -- ---- THE THEOREMS, of a table T in its place
+
+  module _ (T : List ℕ) (len : length T ≡ s .words) where
+    -- Mends of any limits answer 0, and one more, of a limit of at least the table's words, leaves its normal table, and nothing else changed.
+    pub mends-finish : (ms : List Mend) (m : Mend) → AllName w x (ms ++ m ∷ []) → s .words ≤ m .limit
+        → Mending (layIn q s T) (ms ++ m ∷ []) (layIn q s (normal F (s .unit) T))
+    mends-finish ms m n k =
+        subst (λ (t : List ℕ). Mending (layIn q s T) (ms ++ m ∷ []) (layIn q s t))
+        (mends-then F L (s .unit) (f .sited .unit-least) (limits ms) (m .limit) T (omega arith))
+        (mends-leave ms m n T len)
+
+  -- To a normal table the check says yes.
+  pub normal-checked : (t : List ℕ) → length (normal F (s .unit) t) ≡ s .words → (y : ℕ) → Names w x y → checkOf (layIn q s (normal F (s .unit) t)) y ≡ Yes
+  normal-checked t len y n =
+      check-judges (normal F (s .unit) t) len y n
+      ∙ ap verdict (normal-yes F L (s .unit) (normal F (s .unit) t) (sym (normal-normal F L (s .unit) (f .sited .unit-least) t)))

@@ -1,6 +1,5 @@
 -- Worked examples of mend and the check, by computation alone: small tables at 64 KB, where two words are 2 MB; and the refusals of calls in
 -- document 01's arrangement B.
--- Assumes nothing.
 use mathlib.Core.Path.{_≡_, refl}
 use mathlib.Core.Bool.{Bool, true, false}
 use mathlib.Core.List.{List, [], _∷_}
@@ -14,10 +13,11 @@ use Rattle.granules.specs.Nibs.{nibs}
 use Rattle.l0.specs.L0.{l0Of}
 use Rattle.l1.specs.L1.{l1Of}
 use Rattle.l1.specs.Arm.{arm}
-use Rattle.config.specs.declared.Config.{Config}
 use Rattle.config.specs.Fields.{configuredOf}
 use Rattle.resolve.specs.Refusals.{arenaBad, outside}
 use Rattle.resolve.specs.Place.{siteOf, located, placeOf}
+use Rattle.resolve.specs.Lent.{lent}
+use Rattle.resolve.specs.B.{fields, l0B, arrangementB}
 use Rattle.mend.specs.declared.Mended.{Mended}
 use Rattle.mend_table.specs.Normal.{isNormal}
 use Rattle.mend.specs.Outcome.{mendedNumber, mendedStores, checkedNumber, checkedYes, mendedAt, mendOf, checkedAt, checkOf}
@@ -94,23 +94,16 @@ fused-32 : normal (replicate 32 0x2A1) ≡ true
 unfolding opened
 fused-32 = refl
 
--- ---- calls in B, with this configuration and these words lent
-
-abbrev config : ℕ → Bool → Config
-config p on =
-    record { pps = p; pgs = 1; l0gptsz = 0; gpc = on; sa = false; nsp = false; na6 = false; na7 = false; nso = false; gdi = false; gpc2 = false }
-
-abbrev l0 : List ℕ
-l0 = 0x91 ∷ 0x8000_0003 ∷ 0x01 ∷ 0x0 ∷ []
+-- ---- calls in B: with this PPS and GPC, these L0 words, so many arena words and this base lent
 
 abbrev call : ℕ → Bool → List ℕ → ℕ → ℕ → ℕ → Mended
-call p on L n b x = mendOf (config p on) L (replicate n 0x3A1) b x 5 .answer
+call p on L n b x = mendOf (lent (fields p 1 0 on) L (replicate n 0x3A1) b) x 5 .answer
 
-refused-1 : mendedNumber (call 7 true l0 1024 0x8000_0000 0x4000_0000) ≡ 1
+refused-1 : mendedNumber (call 7 true l0B 1024 0x8000_0000 0x4000_0000) ≡ 1
 unfolding opened
 refused-1 = refl
 
-refused-2 : mendedNumber (call 0 false l0 1024 0x8000_0000 0x4000_0000) ≡ 2
+refused-2 : mendedNumber (call 0 false l0B 1024 0x8000_0000 0x4000_0000) ≡ 2
 unfolding opened
 refused-2 = refl
 
@@ -118,35 +111,35 @@ refused-3 : mendedNumber (call 0 true (0x91 ∷ 0x8000_0003 ∷ 0x01 ∷ []) 102
 unfolding opened
 refused-3 = refl
 
-refused-4 : mendedNumber (call 0 true l0 1024 0x8000_0001 0x4000_0000) ≡ 4
+refused-4 : mendedNumber (call 0 true l0B 1024 0x8000_0001 0x4000_0000) ≡ 4
 unfolding opened
 refused-4 = refl
 
-refused-6 : mendedNumber (call 0 true l0 1024 0x8000_0000 0x1_0000_0000) ≡ 6
+refused-6 : mendedNumber (call 0 true l0B 1024 0x8000_0000 0x1_0000_0000) ≡ 6
 unfolding opened
 refused-6 = refl
 
 -- a valid L0 block, and the stores that a refused mend reports
-block : mendedNumber (call 0 true l0 1024 0x8000_0000 0x0) ≡ 6
+block : mendedNumber (call 0 true l0B 1024 0x8000_0000 0x0) ≡ 6
 unfolding opened
 block = refl
 
-block-stores : mendedStores (call 0 true l0 1024 0x8000_0000 0x0) ≡ 0
+block-stores : mendedStores (call 0 true l0B 1024 0x8000_0000 0x0) ≡ 0
 unfolding opened
 block-stores = refl
 
-refused-7 : mendedNumber (call 0 true l0 1024 0x8000_0000 0xC000_0000) ≡ 7
+refused-7 : mendedNumber (call 0 true l0B 1024 0x8000_0000 0xC000_0000) ≡ 7
 unfolding opened
 refused-7 = refl
 
-refused-8 : mendedNumber (call 0 true l0 1023 0x8000_0000 0x4000_0000) ≡ 8
+refused-8 : mendedNumber (call 0 true l0B 1023 0x8000_0000 0x4000_0000) ≡ 8
 unfolding opened
 refused-8 = refl
 
-block-checked : checkedNumber (checkOf (config 0 true) l0 (replicate 1024 0x3A1) 0x8000_0000 0x0) ≡ 6
+block-checked : checkedNumber (checkOf arrangementB 0x0) ≡ 6
 unfolding opened
 block-checked = refl
 
-block-no : checkedYes (checkOf (config 0 true) l0 (replicate 1024 0x3A1) 0x8000_0000 0x0) ≡ false
+block-no : checkedYes (checkOf arrangementB 0x0) ≡ false
 unfolding opened
 block-no = refl

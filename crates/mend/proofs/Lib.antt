@@ -3,7 +3,6 @@
 --   Lookups a mend changes no lookup
 --   Cases   worked examples
 -- The rest serves the functions' proofs.
--- Assumes nothing.
 pub mod Sites
 pub mod Calls
 pub mod Lookups

@@ -36,6 +36,7 @@ use Rattle.resolve.specs.declared.Refusal.{Refusal}
 use Rattle.resolve.specs.declared.Call.{Call}
 use Rattle.resolve.specs.Refusals.{refusalNumber, arenaBad, logShort, gpiBad}
 use Rattle.resolve.specs.Place.{placeOf, seeking}
+use Rattle.resolve.specs.Lent.{Lent, lent}
 use Rattle.gpt.specs.declared.Looked.{Looked}
 use Rattle.gpt.specs.declared.Changed.{Changed}
 use Rattle.gpt.specs.Lookup.{granted, lookupOf}
@@ -68,43 +69,46 @@ is a r q e f = same e f
 both : {X Y : Type 0} {p q : X × Y} → p .0 ≡ q .0 → p .1 ≡ q .1 → p ≡ q
 both e f = ap₂ (λ a b. (a, b)) e f
 
--- ---- the calls: configuration, L0 words, arena, its base, the address; a log and a GPI's number; a mend's limit
+-- ---- the calls: what is lent, the address; a log and a GPI's number; a mend's limit
 
-module _ (c : Config) (T A : List ℕ) (b x : ℕ) where
-  pub gpt-lookup : One (λ (r : Looked). r ≡ lookupOf c T A b x)
+module _ (q : Lent) (x : ℕ) where
+  pub gpt-lookup : One (λ (r : Looked). r ≡ lookupOf q x)
   gpt-lookup = is _
 
-  pub mend-check : One (λ (r : Checked). r ≡ checkOf c T A b x)
+  pub mend-check : One (λ (r : Checked). r ≡ checkOf q x)
   mend-check = is _
 
   module _ (L : List ℕ) (g : ℕ) where
-    pub gpt-set : One (λ (o : Changed × (List ℕ × List ℕ)). Made (setOf c T A b L x g) (o .0) (o .1 .0) (o .1 .1))
-    gpt-set r q m n = both (same (m .answer) (n .answer)) (both (same (m .arena) (n .arena)) (same (m .log) (n .log)))
+    pub gpt-set : One (λ (o : Changed × (List ℕ × List ℕ)). Made (setOf q L x g) (o .0) (o .1 .0) (o .1 .1))
+    gpt-set r s m n = both (same (m .answer) (n .answer)) (both (same (m .arena) (n .arena)) (same (m .log) (n .log)))
 
-    pub gpt-set-met : let o = setOf c T A b L x g in Made o (o .answer) (o .arena) (o .log)
+    pub gpt-set-met : let o = setOf q L x g in Made o (o .answer) (o .left .arena) (o .log)
     gpt-set-met = record { answer = refl; arena = refl; log = refl }
 
   module _ (k : ℕ) where
-    pub mend-mend : One (λ (o : Mended × List ℕ). Left (mendOf c T A b x k) (o .0) (o .1))
-    mend-mend r q m n = both (same (m .answer) (n .answer)) (same (m .arena) (n .arena))
+    pub mend-mend : One (λ (o : Mended × List ℕ). Left (mendOf q x k) (o .0) (o .1))
+    mend-mend r s m n = both (same (m .answer) (n .answer)) (same (m .arena) (n .arena))
 
-    pub mend-mend-met : let o = mendOf c T A b x k in Left o (o .answer) (o .arena)
+    pub mend-mend-met : let o = mendOf q x k in Left o (o .answer) (o .left .arena)
     mend-mend-met = record { answer = refl; arena = refl }
 
 -- ---- the same for C and Rust: fields by their numbers, flags in one byte
 
 module _ (p g l f : ℕ) (T A : List ℕ) (b x : ℕ) where
-  pub abi-gpt_lookup : One (λ (r : ℕ). r ≡ lookedPacked (lookupOf (configOf p g l f) T A b x))
+  abbrev q : Lent
+  q = lent (configOf p g l f) T A b
+
+  pub abi-gpt_lookup : One (λ (r : ℕ). r ≡ lookedPacked (lookupOf q x))
   abi-gpt_lookup = is _
 
-  pub abi-gpt_check : One (λ (r : ℕ). r ≡ checkedPacked (checkOf (configOf p g l f) T A b x))
+  pub abi-gpt_check : One (λ (r : ℕ). r ≡ checkedPacked (checkOf q x))
   abi-gpt_check = is _
 
-  pub abi-gpt_set : (L : List ℕ) (n : ℕ) → One (λ (o : ℕ × (List ℕ × List ℕ)). SetLeft (setOf (configOf p g l f) T A b L x n) (o .0) (o .1 .0) (o .1 .1))
-  abi-gpt_set L n r q s t = both (same (s .answer) (t .answer)) (both (same (s .arena) (t .arena)) (same (s .log) (t .log)))
+  pub abi-gpt_set : (L : List ℕ) (n : ℕ) → One (λ (o : ℕ × (List ℕ × List ℕ)). SetLeft (setOf q L x n) (o .0) (o .1 .0) (o .1 .1))
+  abi-gpt_set L n r v s t = both (same (s .answer) (t .answer)) (both (same (s .arena) (t .arena)) (same (s .log) (t .log)))
 
-  pub abi-gpt_mend : (k : ℕ) → One (λ (o : ℕ × List ℕ). MendLeft (mendOf (configOf p g l f) T A b x k) (o .0) (o .1))
-  abi-gpt_mend k r q s t = both (same (s .answer) (t .answer)) (same (s .arena) (t .arena))
+  pub abi-gpt_mend : (k : ℕ) → One (λ (o : ℕ × List ℕ). MendLeft (mendOf q x k) (o .0) (o .1))
+  abi-gpt_mend k r v s t = both (same (s .answer) (t .answer)) (same (s .arena) (t .arena))
 
 -- ---- the dump: the bytes of an image, a buffer, the place in the text
 
@@ -128,9 +132,8 @@ module _ (S : ℕ → List Step) (k : ℕ) (o : List ℕ) where
 pub text-dump_chunk : (s : List ℕ) (k : ℕ) (o : List ℕ) → One (λ (a : Chunk × List ℕ). Chunked (dumpSteps s) k 0 o (a .1) (a .0))
 text-dump_chunk s = chunked (dumpSteps s)
 
-pub text-table_chunk : (c : Config) (T A : List ℕ) (b k : ℕ) (o : List ℕ)
-    → One (λ (a : Chunk × List ℕ). Chunked (tableSteps c T A b) k 0 o (a .1) (a .0))
-text-table_chunk c T A b = chunked (tableSteps c T A b)
+pub text-table_chunk : (q : Lent) (k : ℕ) (o : List ℕ) → One (λ (a : Chunk × List ℕ). Chunked (tableSteps q) k 0 o (a .1) (a .0))
+text-table_chunk q = chunked (tableSteps q)
 
 -- ---- the view of a table t: its words, the granule width, an address
 

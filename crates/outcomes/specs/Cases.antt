@@ -1,39 +1,26 @@
 -- Document 01, "Cases": the starred ones, C1 to C11, in a single list under one claim, over the definitions that the contracts cite.
--- Assumes nothing: these are definitions.
 use mathlib.Core.Path.{_≡_}
-use mathlib.Core.Bool.{Bool, true, false}
+use mathlib.Core.Bool.{true, false}
 use mathlib.Core.List.{List, [], _∷_, _++_}
 use Prim.Native.Nat.{ℕ}
 use lib.ListN.{replicate}
 use Rattle.gpi.specs.declared.Gpi.the-variants.{NonSecure, Root}
-use Rattle.config.specs.declared.Config.{Config}
+use Rattle.resolve.specs.Lent.{lent}
+use Rattle.resolve.specs.B.{fields, l0B, arenaB, inB}
 use Rattle.gpt.specs.declared.Looked.{Looked}
 use Rattle.gpt.specs.declared.Looked.the-variants.{Ok}
 use Rattle.gpt.specs.Lookup.{lookupOf, lookedNumber}
 use Rattle.gpt.specs.Set.{Outcome, setOf, changedNumber, changedStores, changedRecords}
-
--- ---- "Base arrangement B: PPS 0, L0GPTSZ 0, PGS 1, GPC on, all else off, arena base 0x80000000, 1,024 words of 0x3A1;
--- L0 = 0x91, 0x80000003, 0x01, 0x0"
-
-abbrev pub fields : ℕ → Bool → Config
-fields l0 on =
-    record { pps = 0; pgs = 1; l0gptsz = l0; gpc = on; sa = false; nsp = false; na6 = false; na7 = false; nso = false; gdi = false; gpc2 = false }
-
-abbrev pub l0 : List ℕ
-l0 = 0x91 ∷ 0x8000_0003 ∷ 0x01 ∷ 0x0 ∷ []
-
-abbrev pub arena : List ℕ
-arena = replicate 1024 0x3A1
 
 -- a log whose words past the last record are seen to stay
 abbrev pub log : List ℕ
 log = replicate 52 7
 
 abbrev pub look : List ℕ → ℕ → Looked
-look A x = lookupOf (fields 0 true) l0 A 0x8000_0000 x
+look A x = lookupOf (inB A) x
 
 abbrev pub change : List ℕ → ℕ → ℕ → Outcome
-change A x g = setOf (fields 0 true) l0 A 0x8000_0000 log x g
+change A x g = setOf (inB A) log x g
 
 -- ---- what a set must answer and leave: number, stores, records, the whole arena, the whole log
 
@@ -41,7 +28,7 @@ pub record Leaves (n k r : ℕ) (A L : List ℕ) (o : Outcome) : Type 0 where
   pub number : changedNumber (o .answer) ≡ n
   pub stores : changedStores (o .answer) ≡ k
   pub records : changedRecords (o .answer) ≡ r
-  pub arena : o .arena ≡ A
+  pub arena : o .left .arena ≡ A
   pub log : o .log ≡ L
 
 -- "words 0, 1 become 0xAAAAAAAAAAAAAAAB, 0xAAAAAAAAAAAAAAAA; 2 to 31 become 0x1A1; 32 to 511 become 0x2A1"
@@ -70,23 +57,23 @@ log9 w = 5 ∷ 0 ∷ 0 ∷ w ∷ (barriers 0x1_0000 ++ replicate 36 7)
 -- ---- the list
 
 pub record Starred : Type 0 where
-  pub c1 : look arena 0x3FFF_FFFF ≡ Ok NonSecure
-  pub c2 : look arena 0x4000_0000 ≡ Ok Root
-  pub c3 : lookedNumber (look arena 0xC000_0000) ≡ 7
-  pub c4 : lookedNumber (look arena 0x1_0000_0000) ≡ 6
+  pub c1 : look arenaB 0x3FFF_FFFF ≡ Ok NonSecure
+  pub c2 : look arenaB 0x4000_0000 ≡ Ok Root
+  pub c3 : lookedNumber (look arenaB 0xC000_0000) ≡ 7
+  pub c4 : lookedNumber (look arenaB 0x1_0000_0000) ≡ 6
   pub c5 : lookedNumber (look (0x0A1 ∷ replicate 1023 0x3A1) 0x4000_0000) ≡ 9
-  pub c6 : lookedNumber (lookupOf (fields 4 true) l0 arena 0x8000_0000 0x4000_0000) ≡ 1
-  pub c6-off : lookedNumber (lookupOf (fields 4 false) l0 arena 0x8000_0000 0x4000_0000) ≡ 2
+  pub c6 : lookedNumber (lookupOf (lent (fields 0 1 4 true) l0B arenaB 0x8000_0000) 0x4000_0000) ≡ 1
+  pub c6-off : lookedNumber (lookupOf (lent (fields 0 1 4 false) l0B arenaB 0x8000_0000) 0x4000_0000) ≡ 2
   -- set 0x40000000 Realm
-  pub c7 : Leaves 0 513 10 arena7 log7 (change arena 0x4000_0000 11)
+  pub c7 : Leaves 0 513 10 arena7 log7 (change arenaB 0x4000_0000 11)
   -- "then Root again": from what C7 left
-  pub c8 : Leaves 0 513 5 arena log8 (change ((change arena 0x4000_0000 11) .arena) 0x4000_0000 10)
+  pub c8 : Leaves 0 513 5 arenaB log8 (change (change arenaB 0x4000_0000 11 .left .arena) 0x4000_0000 10)
   -- "set Root at 0x40000000 gives 10 with 1 store; Realm gives 0"
   pub c9 : Leaves 10 1 4 (arena9 0xAAAA_AAAA_AAAA_AAAA) (log9 0xAAAA_AAAA_AAAA_AAAA) (change (arena9 0xAAAA_AAAA_AAAA_AAAA) 0x4000_0000 10)
   pub c9-realm : Leaves 0 1 4 (arena9 0xAAAA_AAAA_AAAA_AAAB) (log9 0xAAAA_AAAA_AAAA_AAAB) (change (arena9 0xAAAA_AAAA_AAAA_AAAA) 0x4000_0000 11)
   -- "set on the block at 0, NonSecure: 6", "set GPI 13: 6"
-  pub c10 : Leaves 6 0 0 arena log (change arena 0x0 9)
-  pub c11 : Leaves 6 0 0 arena log (change arena 0x4000_0000 13)
+  pub c10 : Leaves 6 0 0 arenaB log (change arenaB 0x0 9)
+  pub c11 : Leaves 6 0 0 arenaB log (change arenaB 0x4000_0000 13)
 
 -- ---- one more: a set that shatters and then answers 10
 

@@ -4,3 +4,4 @@ pub mod Granules
 pub mod Cases
 pub mod Arena
 pub mod Numbers
+pub mod Found

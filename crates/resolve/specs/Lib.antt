@@ -1,3 +1,5 @@
 pub mod Place
 pub mod Sited
 pub mod Refusals
+pub mod Lent
+pub mod B

@@ -11,6 +11,7 @@
 pub mod Lists
 pub mod Ranges
 pub mod Stores
+pub mod Arena
 pub mod Events
 pub mod Normal
 pub mod Levels

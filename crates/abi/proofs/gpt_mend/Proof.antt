@@ -8,7 +8,7 @@ use Rattle.abi.proofs.Few.{mend-small}
 use Rattle.abi.specs.Packed.{mendedPacked}
 
 pack-mended-requires : tie.Need-pack-mended-requires
-pack-mended-requires c κs = rw (c .before .before .mend .ensures .answer) (mend-small _ _ _ _ _ _)
+pack-mended-requires c κs = rw (c .before .before .mend .ensures .answer) (mend-small _ _ _)
 
 returns : tie.Need-returns
 returns c = let m = c .before .before .before .mend .ensures in rw (← c .before .before .before .before .before .config .ensures) record { answer = c .pack-mended .ensures ∙ ap mendedPacked (m .answer); arena = m .arena }

@@ -8,7 +8,7 @@ use Rattle.abi.proofs.Few.{set-small}
 use Rattle.abi.specs.Packed.{changedPacked}
 
 pack-changed-requires : tie.Need-pack-changed-requires
-pack-changed-requires c κs = rw (c .before .before .before .before .set .ensures .answer) (set-small _ _ _ _ _ _ _)
+pack-changed-requires c κs = rw (c .before .before .before .before .set .ensures .answer) (set-small _ _ _ _)
 
 returns : tie.Need-returns
 returns c = let m = c .before .before .before .before .before .set .ensures in rw (← c .before .before .before .before .before .before .before .before .config .ensures) record { answer = c .pack-changed .ensures ∙ ap changedPacked (m .answer); arena = m .arena; log = m .log }

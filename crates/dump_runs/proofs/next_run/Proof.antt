@@ -1,9 +1,9 @@
 -- `dump_runs::next_run` meets its contract. The loop keeps that the runs from a on are those of a run that has come to `last`.
--- Assumes nothing.
 use mathlib.Core.Path.{_≡_, sym, ap, _∙_}
 use native.Mathlib.Omega.{arith}
 use Prim.Native.Nat.{_≤_, _<_, _-_, _^_}
 use lib.Pow.{pow-mono}
+use Rattle.resolve.specs.Lent.{lent}
 use Rattle.gpt.specs.Lookup.{lookupOf}
 use Rattle.dump_runs.specs.Runs.{codeOf, runs, from, total}
 use Rattle.dump_runs.proofs.Near.{pps-most}
@@ -13,7 +13,7 @@ use Rattle.dump_runs.proofs.next_run.Statement.{statement}
 use Rattle.dump_runs.proofs.next_run.Tie as tie
 
 abbrev Inv-loop : tie.InvT-loop
-Inv-loop c l0 arena base w a end answer same last₀ last = (a ≤ last) × (last < total w) × (answer ≡ lookupOf c l0 arena (base .0) last) × (same ≡ codeOf answer) × (from (lookupOf c l0 arena (base .0)) a (total w - a) ≡ runs (lookupOf c l0 arena (base .0)) a last (total w - 1 - last))
+Inv-loop c l0 arena base w a end answer same last₀ last = (a ≤ last) × (last < total w) × (answer ≡ lookupOf (lent c l0 arena (base .0)) last) × (same ≡ codeOf answer) × (from (lookupOf (lent c l0 arena (base .0))) a (total w - a) ≡ runs (lookupOf (lent c l0 arena (base .0))) a last (total w - 1 - last))
 
 abbrev μ-loop : tie.MeasureT-loop
 μ-loop c l0 arena base w a end answer same last₀ last = total w - last
@@ -22,7 +22,7 @@ abbrev μ-loop : tie.MeasureT-loop
 top : (c : tie.Start Inv-loop μ-loop) → (c .args .w .pps ≤ 52) × (total (c .args .w) ≤ 2 ^ 52)
 top c =
     let a = c .args in
-    let m = pps-most (a .c) (a .l0 .now) (a .arena .now) (a .base .0) (a .w) (c .pre .0) in
+    let m = pps-most (lent (a .c) (a .l0 .now) (a .arena .now) (a .base .0)) (a .w) (c .pre .0) in
     (m, pow-mono m)
 
 pow2-requires : tie.Need-pow2-requires Inv-loop μ-loop

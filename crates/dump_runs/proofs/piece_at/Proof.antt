@@ -1,5 +1,4 @@
 -- `dump_runs::piece_at` meets its contract: by the place of the address; the view is of that part of the arena.
--- Assumes nothing.
 use mathlib.Core.Path.{refl, sym, _∙_}
 use native.Mathlib.Nat.{add-sub-cancel-left}
 use native.Mathlib.Omega.{arith}
@@ -8,22 +7,28 @@ use borrow.Author.Needs.{needs}
 use lib.ListN.{length}
 use Rattle.resolve.specs.declared.Place.the-variants.{No, Block, Table}
 use Rattle.resolve.specs.Sited.{Sited}
-use Rattle.resolve.proofs.Promises.{resolved}
-use Rattle.gpt.specs.Lookup.{plain, lookedAt}
+use Rattle.resolve.specs.declared.Call.the-variants.{Plain}
+use Rattle.resolve.specs.Lent.{Lent, lent}
+use Rattle.resolve.proofs.Found.{found}
+use Rattle.gpt.specs.Lookup.{lookedAt}
 use Rattle.dump_runs.proofs.Near.{low, piece}
 use Rattle.dump_runs.proofs.Through.{answered}
 use Rattle.dump_runs.proofs.piece_at.Statement.{statement}
 use Rattle.dump_runs.proofs.piece_at.Tie as tie
 
+-- what the call is lent
+abbrev from : tie.Start → Lent
+from c = let a = c .args in lent (a .c) (a .l0 .now) (a .arena .now) (a .base .0)
+
 -- the address and the widths are small
 small : (c : tie.Start) → (c .args .a < 2 ^ 52) × (c .args .w .l0gptsz ≤ 52) × (c .args .w .pgs ≤ 52)
-small c = let a = c .args in low (a .c) (a .l0 .now) (a .arena .now) (a .base .0) (a .w) (c .pre .0) (a .a) (c .pre .1)
+small c = let a = c .args in low (from c) (a .w) (c .pre .0) (a .a) (c .pre .1)
 
 -- what the place in a table promises
 at-site : (c : tie.After-s) → Sited (length (c .before .before .before .before .before .args .arena .now)) (c .s .given .0 .0)
 at-site c =
-    let a = c .before .before .before .before .before .args in
-    resolved (plain (a .c) (a .arena .now) (a .base .0) (a .a)) (a .l0 .now) _ (sym (c .before .before .find .ensures) ∙ c .s .given .1) .1 .sited
+    let s = c .before .before .before .before .before in
+    found (from s) Plain (s .args .a) _ (sym (c .before .before .find .ensures) ∙ c .s .given .1) .1 .sited
 
 last-of-requires : tie.Need-last-of-requires
 last-of-requires c κs = let s = small (c .before .before .before .before .before .before) in (s .0, omega (arith, s .1, s .2))
@@ -51,7 +56,7 @@ unfolding lookedAt
 returns c =
     let s = c .before .before .before .before .before .before .before in
     let a = s .args in
-    piece (a .c) (a .l0 .now) (a .arena .now) (a .base .0) (a .w) (s .pre .0) (a .a) (s .pre .1) (No (c .before .before .r .given .0 .0))
+    piece (from s) (a .w) (s .pre .0) (a .a) (s .pre .1) (No (c .before .before .r .given .0 .0))
     (sym (c .before .before .before .before .find .ensures) ∙ c .before .before .r .given .1) refl (c .last-of .ensures)
 
 returns-2 : tie.Need-returns-2
@@ -59,7 +64,7 @@ unfolding lookedAt
 returns-2 c =
     let s = c .before .before .before .before .before .before .before .before in
     let a = s .args in
-    piece (a .c) (a .l0 .now) (a .arena .now) (a .base .0) (a .w) (s .pre .0) (a .a) (s .pre .1) (Block (c .before .before .before .g .given .0 .0))
+    piece (from s) (a .w) (s .pre .0) (a .a) (s .pre .1) (Block (c .before .before .before .g .given .0 .0))
     (sym (c .before .before .before .before .before .find .ensures) ∙ c .before .before .before .g .given .1) (c .before .grant .ensures) (c .last-of2 .ensures)
 
 returns-3 : tie.Need-returns-3
@@ -68,8 +73,8 @@ returns-3 c =
     let a = s .args in
     let t = c .before .before .before .before .before .before .before .s .given .0 .0 in
     let e = sym (c .before .before .before .before .before .before .before .before .before .find .ensures) ∙ c .before .before .before .before .before .before .before .s .given .1 in
-    piece (a .c) (a .l0 .now) (a .arena .now) (a .base .0) (a .w) (s .pre .0) (a .a) (s .pre .1) (Table t) e
-    (answered (a .c) (a .l0 .now) (a .arena .now) (a .base .0) (a .a) (a .w) (s .pre .0 .configured) t e
+    piece (from s) (a .w) (s .pre .0) (a .a) (s .pre .1) (Table t) e
+    (answered (from s) (a .a) (a .w) (s .pre .0 .configured) t e
     (c .before .answer .ensures) (c .before .before .gpi-through .ensures) (add-sub-cancel-left _ _) (c .before .before .before .distance .ensures))
     (c .last-of3 .ensures)
 

@@ -5,9 +5,12 @@ use native.Mathlib.Nat.{add-sub-cancel-left}
 use native.Mathlib.Omega.{arith}
 use borrow.Author.Needs.{needs}
 use lib.ListN.{length}
+use Rattle.resolve.specs.declared.Call.the-variants.{Plain}
 use Rattle.resolve.specs.Sited.{Sited}
-use Rattle.resolve.proofs.Promises.{resolved, table-length}
-use Rattle.gpt.specs.Lookup.{plain, lookedAt, lookupOf}
+use Rattle.theory.proofs.Arena.{table-length}
+use Rattle.resolve.specs.Lent.{lent}
+use Rattle.resolve.proofs.Found.{found}
+use Rattle.gpt.specs.Lookup.{lookedAt, lookupOf}
 use Rattle.gpt.proofs.lookup.Statement.{statement}
 use Rattle.gpt.proofs.lookup.Tie as tie
 
@@ -15,7 +18,8 @@ use Rattle.gpt.proofs.lookup.Tie as tie
 at-site : (c : tie.After-s) → Sited (length (c .before .before .before .before .before .args .arena .now)) (c .s .given .0 .0)
 at-site c =
     let a = c .before .before .before .before .before .args in
-    resolved (plain (a .c) (a .arena .now) (a .base .0) (a .address .0)) (a .l0 .now) _ (sym (c .before .before .find .ensures) ∙ c .s .given .1) .1 .sited
+    found (lent (a .c) (a .l0 .now) (a .arena .now) (a .base .0)) Plain (a .address .0) _
+    (sym (c .before .before .find .ensures) ∙ c .s .given .1) .1 .sited
 
 add-end : tie.Need-add-end
 add-end c = let s = at-site (c .before .before) in omega (arith, s .fits, s .arena)
@@ -27,7 +31,7 @@ part-read-table-end : tie.Need-part-read-table-end
 part-read-table-end c = at-site (c .before .before) .fits
 
 read-table-requires : tie.Need-read-table-requires
-read-table-requires c κs = let s = at-site (c .before .before .before) in rw (add-sub-cancel-left _ _, table-length _ _ s) (s .index, s .granule)
+read-table-requires c κs = let s = at-site (c .before .before .before) in rw (add-sub-cancel-left _ _, table-length _ _ _ (s .fits)) (s .index, s .granule)
 
 returns : tie.Need-returns
 unfolding lookupOf lookedAt

@@ -3,9 +3,12 @@
 use mathlib.Core.Path.{refl, sym, _∙_}
 use borrow.Author.Tests.{ltb-false}
 use Rattle.config.specs.declared.Widths.{Widths}
+use Rattle.resolve.specs.declared.Call.the-variants.{Set}
 use Rattle.resolve.specs.Sited.{Resolved}
+use Rattle.resolve.specs.Lent.{lent, askOf}
 use Rattle.resolve.proofs.Promises.{resolved}
-use Rattle.gpt.specs.Set.{asking, setOf, setAt}
+use Rattle.gpt.specs.Set.{setOf, setAt}
+use lib.ListN.{length}
 use borrow.Author.Needs.{needs}
 use Rattle.gpt.proofs.set.Statement.{statement}
 use Rattle.gpt.proofs.set.Tie as tie
@@ -14,7 +17,8 @@ use Rattle.gpt.proofs.set.Tie as tie
 at-site : (c : tie.After-s) →
     let p = c .before .before in
     let a = p .before .before .before .before .before .args in
-    (w : Widths) × Resolved (asking (a .c) (a .arena .now) (a .base .0) (a .log .now) (a .address .0) (p .before .gpi-of .result)) (a .l0 .now) w (c .s .given .0 .0)
+    (w : Widths) × Resolved (askOf (lent (a .c) (a .l0 .now) (a .arena .now) (a .base .0)) (Set (length (a .log .now)) (p .before .gpi-of .result)) (a .address .0))
+    (a .l0 .now) w (c .s .given .0 .0)
 at-site c = resolved _ _ _ (sym (c .before .before .resolve .ensures) ∙ c .s .given .1)
 
 enum-told : tie.Need-enum-told
@@ -44,7 +48,7 @@ returns-3 c =
     let n = x .before .before .before .before in
     let s = n .before .before .before in
     let p = s .before .before in
-    rw (← p .before .gpi-of .ensures, sym (p .resolve .ensures) ∙ s .s .given .1, n .n .given .1) (x .set-site .ensures)
+    rw (← p .before .gpi-of .ensures, sym (p .resolve .ensures) ∙ s .s .given .1, n .n .given .1) (x .set-site .ensures _ _ _)
 
 returns-4 : tie.Need-returns-4
 unfolding setOf setAt

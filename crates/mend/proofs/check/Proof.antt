@@ -1,66 +1,44 @@
--- `mend::check` meets its contract: by the place of the address; the L1 table is that part of the arena.
--- Assumes nothing.
+-- `mend::check` meets its contract: by the table that the address names; it is that part of the arena.
 use mathlib.Core.Path.{_≡_, sym, _∙_}
 use native.Mathlib.Nat.{add-sub-cancel-left}
 use native.Mathlib.Omega.{arith}
 use lib.ListN.{length}
-use Rattle.resolve.specs.declared.Place.the-variants.{Table}
-use Rattle.resolve.specs.Place.{placeOf}
 use Rattle.resolve.specs.Sited.{Sited}
-use Rattle.gpt.specs.Lookup.{plain}
-use Rattle.mend.proofs.Sites.{site-regions, sited, check-refused, check-block, check-in}
+use Rattle.resolve.specs.Lent.{Lent, lent, placed}
+use Rattle.mend.specs.declared.Named.the-variants.{At}
+use Rattle.mend.specs.Outcome.{namedBy}
+use Rattle.mend.proofs.Sites.{site-regions, sited, check-refused, check-in}
 use borrow.Author.Needs.{needs}
 use Rattle.mend.proofs.check.Statement.{statement}
 use Rattle.mend.proofs.check.Tie as tie
 
--- the place, and what one in a table promises
-there : (c : tie.After-s)
-    → let a = c .before .before .before .before .before .args in
-    placeOf (plain (a .c) (a .arena .now) (a .base .0) (a .address .0)) (a .l0 .now) ≡ Table (c .s .given .0 .0)
-there c = sym (c .before .before .resolve .ensures) ∙ c .s .given .1
+abbrev start : tie.After-table-named → tie.Start
+start c = c .before .before .before
 
-at-site : (c : tie.After-s) → Sited (length (c .before .before .before .before .before .args .arena .now)) (c .s .given .0 .0)
-at-site c =
-    let a = c .before .before .before .before .before .args in
-    sited (a .c) (a .l0 .now) (a .arena .now) (a .base .0) (a .address .0) _ (there c)
+-- what the call is lent
+abbrev from : tie.After-table-named → Lent
+from c = let a = start c .args in lent (a .c) (a .l0 .now) (a .arena .now) (a .base .0)
 
-enum-told : tie.Need-enum-told
-enum-told c = search needs
+there : (c : tie.After-s) → namedBy (placed (from (c .before .before)) (start (c .before .before) .args .address .0)) ≡ At (c .s .given .0 .0)
+there c = sym (c .before .before .table-named .ensures) ∙ c .s .given .1
 
-add-end : tie.Need-add-end
-add-end c = let s = at-site (c .before .before) in omega (arith, s .fits, s .arena)
-
-mul-check-table : tie.Need-mul-check-table
-mul-check-table c = let s = at-site (c .before .before) in omega (arith, s .fits, s .arena)
-
-part-check-table-end : tie.Need-part-check-table-end
-part-check-table-end c = at-site (c .before .before) .fits
+at-site : (c : tie.After-s) → Sited (length (start (c .before .before) .args .arena .now)) (c .s .given .0 .0)
+at-site c = sited (from (c .before .before)) (start (c .before .before) .args .address .0) _ (there c)
 
 check-table-requires : tie.Need-check-table-requires
 check-table-requires c κs =
     let s = c .before .before .before in
-    let a = s .before .before .before .before .before .args in
-    rw (add-sub-cancel-left _ _) (site-regions (a .arena .now) _ (at-site s))
+    rw (add-sub-cancel-left _ _) (site-regions (start (s .before .before) .args .arena .now) _ (at-site s))
 
 returns : tie.Need-returns
-returns c =
-    let p = c .before .before .before in
-    let a = p .before .before .before .args in
-    check-refused (a .c) (a .l0 .now) (a .arena .now) (a .base .0) (a .address .0) _ (sym (p .resolve .ensures) ∙ c .before .r .given .1)
+returns c = let p = c .before .before .before in check-refused (from p) (start p .args .address .0) _ (sym (p .table-named .ensures) ∙ c .before .r .given .1)
 
 returns-2 : tie.Need-returns-2
 returns-2 c =
-    let p = c .before .before in
-    let a = p .before .before .before .args in
-    check-block (a .c) (a .l0 .now) (a .arena .now) (a .base .0) (a .address .0) _ (sym (p .resolve .ensures) ∙ c .enum-told .given .1)
-
-returns-3 : tie.Need-returns-3
-returns-3 c =
     let k = c .before in
     let s = k .before .before .before .before in
-    let a = s .before .before .before .before .before .args in
-    check-in (a .c) (a .l0 .now) (a .arena .now) (a .base .0) (a .address .0) _ (there s)
-    (rw (add-sub-cancel-left _ _) at (k .check-table .ensures)) (c .verdict-of .ensures)
+    let p = s .before .before in
+    check-in (from p) (start p .args .address .0) _ (there s) (rw (add-sub-cancel-left _ _) at (k .check-table .ensures)) (c .verdict-of .ensures)
 
 pub check-spec : {M : Type 1} → statement M
 check-spec =
@@ -68,15 +46,13 @@ check-spec =
     (tie.spec
     (λ c κs. search needs)
     (λ c. search needs)
-    enum-told
     (λ c. search needs)
-    add-end
-    mul-check-table
+    (λ c. let s = at-site (c .before .before) in omega (arith, s .fits, s .arena))
+    (λ c. let s = at-site (c .before .before) in omega (arith, s .fits, s .arena))
     (λ c. search needs)
     (λ c. search needs)
-    part-check-table-end
+    (λ c. at-site (c .before .before) .fits)
     check-table-requires
     (λ c κs. search needs)
     returns
-    returns-2
-    returns-3)
+    returns-2)
