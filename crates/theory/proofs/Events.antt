@@ -9,7 +9,8 @@ use native.Mathlib.Omega.{arith}
 use lib.ListN.{length, set, drop, length-append}
 use lib.Seq.{sets, sets-eq, length-sets}
 use Rattle.theory.specs.Stores.{Store, fill, moved, shifted}
-use Rattle.theory.specs.Events.{Event, filled, dsb-oshst, tlbi, dsb-osh, granule, storesOf, stores, countOf, count, recordOf, records, logged, readLog}
+use Rattle.theory.specs.Events.{Kind, dsb-oshst, tlbi, dsb-osh, kindNumber, Event, filled, granule, barrier, storesOf, stores, countOf, count}
+use Rattle.theory.specs.Events.{recordOf, records, logged, told, readLog}
 
 -- ---- stores
 
@@ -25,10 +26,8 @@ length-fill a (suc n) w = ap suc (length-fill (suc a) n w)
 
 length-storesOf : (e : Event) → length (storesOf e) ≡ countOf e
 length-storesOf (filled a n w) = length-fill a n w
-length-storesOf dsb-oshst = refl
-length-storesOf (tlbi x b) = refl
-length-storesOf dsb-osh = refl
 length-storesOf (granule i j w) = refl
+length-storesOf (barrier k x y) = refl
 
 -- the number of stores is the sum of the events': a fill's count, one of a granule store, none of a barrier
 pub length-stores : (es : List Event) → length (stores es) ≡ count es
@@ -45,10 +44,8 @@ records-append o (e ∷ es) b = rw (records-append o es b) (sym (append-assoc (r
 
 length-recordOf : (o : ℕ) (e : Event) → length (recordOf o e) ≡ 4
 length-recordOf o (filled a n w) = refl
-length-recordOf o dsb-oshst = refl
-length-recordOf o (tlbi x b) = refl
-length-recordOf o dsb-osh = refl
 length-recordOf o (granule i j w) = refl
+length-recordOf o (barrier k x y) = refl
 
 -- four words to a record
 pub length-records : (o : ℕ) (es : List Event) → length (records o es) ≡ 4 * length es
@@ -86,14 +83,18 @@ unfolding fill
 shifted-fill o a zero w = refl
 shifted-fill o a (suc n) w = ap (λ (r : List Store). record { index = o + a; word = w } ∷ r) (shifted-fill o (suc a) n w ∙ rw add-suc refl)
 
+-- a barrier's number is neither 1 nor 5: its record tells no store
+barrier-tells : (k : Kind) (x y : ℕ) → told (kindNumber k) x y 0 ≡ []
+barrier-tells dsb-oshst x y = refl
+barrier-tells tlbi x y = refl
+barrier-tells dsb-osh x y = refl
+
 records-tell : (o : ℕ) (es : List Event) (rest : List ℕ) → readLog (length es) (records o es ++ rest) ≡ shifted o (stores es)
 unfolding readLog records stores
 records-tell o [] rest = refl
 records-tell o (filled a n w ∷ es) rest = ap₂ _++_ (sym (shifted-fill o a n w)) (records-tell o es rest) ∙ sym (map-append (moved o) (fill a n w) (stores es))
-records-tell o (dsb-oshst ∷ es) rest = records-tell o es rest
-records-tell o (tlbi x b ∷ es) rest = records-tell o es rest
-records-tell o (dsb-osh ∷ es) rest = records-tell o es rest
 records-tell o (granule i j w ∷ es) rest = ap (λ (r : List Store). record { index = o + i; word = w } ∷ r) (records-tell o es rest)
+records-tell o (barrier k x y ∷ es) rest = ap₂ _++_ (barrier-tells k x y) (records-tell o es rest)
 
 -- a log that holds the records tells the stores, as stores of the arena
 pub logged-tells : (o : ℕ) (es : List Event) (log : List ℕ) → 4 * length es ≤ length log → readLog (length es) (logged o 0 es log) ≡ shifted o (stores es)

@@ -14,9 +14,9 @@ use Rattle.theory.specs.Format.{Format, Laws, reading}
 use Rattle.theory.specs.Normal.{at, span}
 use Rattle.theory.specs.Stores.{apply, cut}
 use Rattle.theory.specs.Mend.{mend, mends as several}
-use Rattle.theory.specs.Set.{Agrees, lead, changedFlat}
+use Rattle.theory.specs.Set.{Target, Agrees, Aimed, lead, setStores, changedFlat}
 use Rattle.theory.specs.Whole.{Whole}
-use Rattle.theory.specs.Moves.{Part, tableAt, laid, Apart, Target, Act, sets, cuts, mends, targetStores, acted, actMark, Ideal, updated, actIdeal, Aimed, May, Move, State, move, moves, Allowed, Kept}
+use Rattle.theory.specs.Moves.{Part, tableAt, laid, Apart, Act, sets, cuts, mends, acted, actMark, Ideal, updated, actIdeal, May, Move, State, move, moves, Allowed, Kept}
 use Rattle.theory.proofs.Lists.{map-at}
 use Rattle.theory.proofs.Stores.{length-apply, length-cut, length-part}
 use Rattle.theory.proofs.Mend.{length-mend, flat-mend}
@@ -25,8 +25,8 @@ use Rattle.theory.proofs.Whole.{whole-agrees, set-whole, mends-whole}
 use Rattle.theory.proofs.Parts.{at-table, length-laid, laid-in, table-laid, laid-other, table-other}
 
 length-acted : (F : Format) (u : ℕ) (a : Act) (t : List ℕ) → length (acted F u a t) ≡ length t
-length-acted F u (sets q) t = length-apply t (targetStores F u t q)
-length-acted F u (cuts q k) t = length-cut k t (targetStores F u t q)
+length-acted F u (sets q) t = length-apply t (setStores F u t q)
+length-acted F u (cuts q k) t = length-cut k t (setStores F u t q)
 length-acted F u (mends n) t = length-mend F u n t
 
 -- of another table nothing is changed
@@ -47,7 +47,7 @@ module _ (F : Format) (L : Laws F) (u : ℕ) (u-pos : 0 < u) where
     acted-whole : (a : Act) → May F t b a → actMark (length t) a b ≡ true → Whole F u (acted F u a t)
     unfolding several
     acted-whole (sets q) x h =
-        set-whole F L u u-pos t m regions (q .word) (q .granule) (q .gpi) (q .address) (q .grain) (x .is-word) (x .is-granule) (x .is-valid) (x .is-gpi) (w h)
+        set-whole F L u u-pos t m regions q (x .1) (w h)
     acted-whole (cuts q k) x h = let z : _≡_ {A = ℕ} 0 1 = cc in absurd (omega arith)
     acted-whole (mends n) x h = go (ltb n (length t)) refl h
       where
@@ -56,20 +56,19 @@ module _ (F : Format) (L : Laws F) (u : ℕ) (u-pos : 0 < u) where
         go false p r = mends-whole F L u u-pos t m regions [] n (ltb-false n (length t) p)
 
     -- a table of the new granules reads as the ideal with the target made
-    reads-new : (q : Target) → Aimed F t b q → (s : List ℕ) → map (F .flat) s ≡ changedFlat F t (q .word) (q .granule) (q .gpi)
+    reads-new : (q : Target) → Aimed F t q → (s : List ℕ) → map (F .flat) s ≡ changedFlat F t q
         → (e : ℕ) (f : Ideal) (i j : ℕ) → j < 16 → reading F (at t i) j ≡ f e i j → reading F (at s i) j ≡ updated f e q e i j
     unfolding updated
     reads-new q x s c e f i j j< h = rw (eq-eqb e e refl) (go (ℕ-discrete i (q .word)) (ℕ-discrete j (q .granule)))
       where
         old : (i ≡ q .word → j ≡ q .granule → ⊥) → reading F (at s i) j ≡ f e i j
-        old o =
-            new-outside F L t (q .word) (q .granule) (q .gpi) (x .is-valid) (x .is-gpi) (x .is-granule) s c (x .is-word) i j j< o ∙ h
+        old o = new-outside F L t q x s c i j j< o ∙ h
 
         go : Dec (i ≡ q .word) → Dec (j ≡ q .granule)
             → reading F (at s i) j ≡ cond (eqb i (q .word) && eqb j (q .granule)) (some (q .gpi)) (f e i j)
         go (yes y) (yes z) =
             rw (y, z, eq-eqb (q .word) (q .word) refl, eq-eqb (q .granule) (q .granule) refl)
-            (new-target F L t (q .word) (q .granule) (q .gpi) (x .is-valid) (x .is-gpi) (x .is-granule) s c (x .is-word))
+            (new-target F L t q x s c)
         go (yes y) (no z) = rw (y, eq-eqb (q .word) (q .word) refl, ne-eqb j (q .granule) z) (rw y at (old (λ _ r. z r)))
         go (no y) z = rw (ne-eqb i (q .word) y) (old (λ r _. y r))
 
@@ -77,25 +76,20 @@ module _ (F : Format) (L : Laws F) (u : ℕ) (u-pos : 0 < u) where
     acted-reads : (a : Act) → May F t b a → (e : ℕ) (f : Ideal) (i j : ℕ) → j < 16 → reading F (at t i) j ≡ f e i j
         → reading F (at (acted F u a t) i) j ≡ actIdeal F u e a t f e i j
     acted-reads (sets q) x e f i j j< h =
-        reads-new q x (apply t (targetStores F u t q))
-        (flat-set F L t (q .word) (q .granule) (q .gpi) (x .is-valid) (x .is-gpi) (x .is-granule) u
-        (whole-agrees F L u u-pos t (w (x .is-marked)) (q .word) (x .is-word)) (q .address) (q .grain)) e f i j j< h
+        reads-new q (x .1) (apply t (setStores F u t q))
+        (flat-set F L t q (x .1) u (whole-agrees F L u u-pos t (w (x .0)) (q .word) (x .1 .is-word))) e f i j j< h
     acted-reads (cuts q k) x e f i j j< h = go (ltb (lead F u t (q .word)) k) refl
       where
         ag : Agrees F u t (q .word)
-        ag = whole-agrees F L u u-pos t (w (x .is-marked)) (q .word) (x .is-word)
+        ag = whole-agrees F L u u-pos t (w (x .0)) (q .word) (x .1 .is-word)
 
         go : (y : Bool) → ltb (lead F u t (q .word)) k ≡ y
-            → reading F (at (cut k t (targetStores F u t q)) i) j ≡ cond {A = Ideal} y (updated f e q) f e i j
+            → reading F (at (cut k t (setStores F u t q)) i) j ≡ cond {A = Ideal} y (updated f e q) f e i j
         go true p =
-            reads-new q x (cut k t (targetStores F u t q))
-            (flat-after F L t (q .word) (q .granule) (q .gpi) (x .is-valid) (x .is-gpi) (x .is-granule) u ag (q .address) (q .grain) k
-            (ltb-true (lead F u t (q .word)) k p)) e f i j j< h
+            reads-new q (x .1) (cut k t (setStores F u t q)) (flat-after F L t q (x .1) u ag k (ltb-true (lead F u t (q .word)) k p)) e f i j j< h
         go false p =
-            same-reading F L (at (cut k t (targetStores F u t q)) i) (at t i) j
-            (map-at (F .flat) (cut k t (targetStores F u t q)) t
-            (flat-before F L t (q .word) (q .granule) (q .gpi) (x .is-valid) (x .is-gpi) (x .is-granule) u ag (q .address) (q .grain) k
-            (ltb-false (lead F u t (q .word)) k p)) i) ∙ h
+            same-reading F L (at (cut k t (setStores F u t q)) i) (at t i) j
+            (map-at (F .flat) (cut k t (setStores F u t q)) t (flat-before F L t q (x .1) u ag k (ltb-false (lead F u t (q .word)) k p)) i) ∙ h
     acted-reads (mends n) x e f i j j< h =
         same-reading F L (at (mend F u n t) i) (at t i) j (map-at (F .flat) (mend F u n t) t (flat-mend F L u u-pos n t) i) ∙ h
 

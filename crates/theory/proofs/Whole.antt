@@ -15,7 +15,9 @@ use Rattle.theory.specs.Normal.{at, span, base, In, normalWord, build, n
 use Rattle.theory.specs.Stores.{apply, fill}
 use Rattle.theory.specs.Mend.{mend, mends, repairs, mending}
 use Rattle.theory.specs.Events.{stores}
-use Rattle.theory.specs.Set.{shatter, breaks, broken, newWord, Fused, nowhere, level, refused, fused, fusing, setStores, Agrees}
+use Rattle.theory.specs.declared.Fused.{Fused}
+use Rattle.theory.specs.declared.Fused.the-variants.{Nowhere, Level, Refused}
+use Rattle.theory.specs.Set.{Target, shatter, breaks, broken, newWord, fused, fusing, setStores, Agrees, Aimed}
 use Rattle.theory.specs.Whole.{Same, Whole}
 use Rattle.theory.proofs.Lists.{length-build, at-build}
 use Rattle.theory.proofs.Stores.{each-of, apply-append, length-apply, apply-out, fill-in, fill-out}
@@ -24,7 +26,7 @@ use Rattle.theory.proofs.Normal.{length-normal, at-normal, normal-norma
 use Rattle.theory.proofs.Levels.{Ranged, capped-range, up-true}
 use Rattle.theory.proofs.Mend.{mends-then}
 use Rattle.theory.proofs.Shatter.{stores-fill, Shatters, shatter-each, shatter-range, flat-rep}
-use Rattle.theory.proofs.Set.{granuleStore, stores-set, broken-at, fusing-level}
+use Rattle.theory.proofs.Set.{granuleStore, last, stores-set, broken-at, fusing-level}
 
 module _ (F : Format) (L : Laws F) (u : ℕ) (u-pos : 0 < u) where
   -- ---- whole implies agreement
@@ -162,19 +164,21 @@ module _ (F : Format) (L : Laws F) (u : ℕ) (u-pos : 0 < u) where
 
   -- ---- a finished set
 
-  module _ (t : List ℕ) (m : ℕ) (regions : length t ≡ m * span u 2) (i j g x b : ℕ) (i< : i < length t) (j< : j < 16)
-      (ok : F .valid (at t i) ≡ true) (known : F .known g ≡ true) (w : Whole F u t) where
+  module _ (t : List ℕ) (m : ℕ) (regions : length t ≡ m * span u 2) (q : Target) (a : Aimed F t q) (w : Whole F u t) where
+    abbrev i : ℕ
+    i = q .word
+
     abbrev t₁ : List ℕ
     t₁ = apply t (stores (broken F u t i))
 
     abbrev t₂ : List ℕ
-    t₂ = set (apply t (stores (broken F u t i))) i (newWord F t i j g)
+    t₂ = set t₁ i (newWord F t q)
 
     len₁ : length t₁ ≡ length t
     len₁ = length-apply t (stores (broken F u t i))
 
     len₂ : length t₂ ≡ length t
-    len₂ = length-set t₁ i (newWord F t i j g) ∙ len₁
+    len₂ = length-set t₁ i (newWord F t q) ∙ len₁
 
     whole₁ : Whole F u t₁
     unfolding broken breaks apply stores
@@ -182,34 +186,36 @@ module _ (F : Format) (L : Laws F) (u : ℕ) (u-pos : 0 < u) where
       where
         go : (s : ℕ) → F .size (at t i) ≡ s → Whole F u (apply t (stores (breaks F u (gpi F (at t i)) i s)))
         go zero e = w
-        go (suc l) e = shatter-whole t m regions i i< w l e
+        go (suc l) e = shatter-whole t m regions i (a .is-word) w l e
 
     size₁ : F .size (at t₁ i) ≡ 0
-    size₁ = ap (F .size) (broken-at F L u u-pos t i i<) ∙ L .size-of-flat (at t i)
+    size₁ = ap (F .size) (broken-at F L u u-pos t i (a .is-word)) ∙ L .size-of-flat (at t i)
 
-    size-new : F .size (newWord F t i j g) ≡ 0
+    size-new : F .size (newWord F t q) ≡ 0
     unfolding newWord
-    size-new = ap (F .size) (sym (L .put-flat (at t i) j g ok j< known)) ∙ L .size-of-flat (F .put (F .flat (at t i)) j g)
+    size-new =
+        ap (F .size) (sym (L .put-flat (at t i) (q .granule) (q .gpi) (a .is-valid) (a .is-granule) (a .is-gpi)))
+        ∙ L .size-of-flat (F .put (F .flat (at t i)) (q .granule) (q .gpi))
 
     whole₂ : Whole F u t₂
-    whole₂ = granule-whole t₁ m (len₁ ∙ regions) i (omega (arith, len₁)) whole₁ (newWord F t i j g) size₁ size-new
+    whole₂ = granule-whole t₁ m (len₁ ∙ regions) i (omega (arith, len₁, a .is-word)) whole₁ (newWord F t q) size₁ size-new
 
     size₂ : F .size (at t₂ i) ≡ 0
-    size₂ = ap (F .size) (getD-set-same t₁ i (newWord F t i j g) 0 (omega (arith, len₁))) ∙ size-new
+    size₂ = ap (F .size) (getD-set-same t₁ i (newWord F t q) 0 (omega (arith, len₁, a .is-word))) ∙ size-new
 
     -- A finished set keeps a table whole, whether it fuses, doesn't, or answers 10.
-    pub set-whole : Whole F u (apply t (setStores F u t i j g x b))
+    pub set-whole : Whole F u (apply t (setStores F u t q))
     unfolding fused apply stores
     set-whole =
-        rw (stores-set F u t i j g x b, apply-append t (stores (broken F u t i)) (granuleStore F t i j g ∷ stores (fused F u g i (fusing F u t i j g))))
-        (go (fusing F u t i j g) refl)
+        rw (stores-set F u t q, apply-append t (stores (broken F u t i)) (granuleStore F t q ∷ stores (last F u t q)))
+        (go (fusing F u t q) refl)
       where
-        go : (f : Fused) → fusing F u t i j g ≡ f → Whole F u (apply t₂ (stores (fused F u g i f)))
-        go nowhere e = whole₂
-        go (level l) e =
-            rw (stores-fill (base (span u l) i) (span u l) (F .contig l g))
-            (fuse-whole t₂ m (len₂ ∙ regions) i (omega (arith, len₂)) whole₂ g l known ((fusing-level F u t i j g l e) .0) size₂)
-        go refused e = whole₂
+        go : (f : Fused) → fusing F u t q ≡ f → Whole F u (apply t₂ (stores (fused F u (q .gpi) i f)))
+        go Nowhere e = whole₂
+        go (Level l) e =
+            rw (stores-fill (base (span u l) i) (span u l) (F .contig l (q .gpi)))
+            (fuse-whole t₂ m (len₂ ∙ regions) i (omega (arith, len₂, a .is-word)) whole₂ (q .gpi) l (a .is-gpi) ((fusing-level F u t q l e) .0) size₂)
+        go (Refused k) e = whole₂
 
   -- Mends of any table, of any limits, and then one that no limit stops, leave a whole table: it is the normal table of the start.
   pub mends-whole : (t : List ℕ) (m : ℕ) → length t ≡ m * span u 2 → (ks : List ℕ) (n : ℕ) → length t ≤ n → Whole F u (mend F u n (mends F u ks t))

@@ -12,9 +12,9 @@ use lib.Dec.{eqb, ltb}
 use lib.ListN.{length}
 use Rattle.theory.specs.Format.{Format, reading}
 use Rattle.theory.specs.Normal.{at, span}
-use Rattle.theory.specs.Stores.{Store, apply, cut}
+use Rattle.theory.specs.Stores.{apply, cut}
 use Rattle.theory.specs.Mend.{mend}
-use Rattle.theory.specs.Set.{lead, setStores}
+use Rattle.theory.specs.Set.{Target, lead, setStores, Aimed}
 use Rattle.theory.specs.Whole.{Whole}
 
 -- ---- tables as parts of an arena
@@ -42,14 +42,6 @@ pub record Parts (u n : ℕ) (ps : ℕ → Part) : Type 0 where
 
 -- ---- acts on one table
 
--- which granule of which word is made which GPI; the address and the granule's bytes are what the set's barriers tell
-pub record Target : Type 0 where
-  pub word : ℕ
-  pub granule : ℕ
-  pub gpi : ℕ
-  pub address : ℕ
-  pub grain : ℕ
-
 pub data Act : Type 0 where
   -- a set to its end, which may be refusal 10
   sets : Target → Act
@@ -58,13 +50,10 @@ pub data Act : Type 0 where
   -- a mend of this limit
   mends : ℕ → Act
 
-abbrev pub targetStores : Format → ℕ → List ℕ → Target → List Store
-targetStores F u t q = setStores F u t (q .word) (q .granule) (q .gpi) (q .address) (q .grain)
-
 -- the table after it
 abbrev pub acted : Format → ℕ → Act → List ℕ → List ℕ
-acted F u (sets q) t = apply t (targetStores F u t q)
-acted F u (cuts q k) t = cut k t (targetStores F u t q)
+acted F u (sets q) t = apply t (setStores F u t q)
+acted F u (cuts q k) t = cut k t (setStores F u t q)
 acted F u (mends n) t = mend F u n t
 
 -- whether a table of n words is then known to be whole: a finished set leaves it as it was; a cut makes it doubtful, and so does a mend that its
@@ -88,18 +77,10 @@ actIdeal F u e (sets q) t f = updated f e q
 actIdeal F u e (cuts q k) t f = cond (ltb (lead F u t (q .word)) k) (updated f e q) f
 actIdeal F u e (mends n) t f = f
 
--- a set is of a granule of a valid word, to a GPI, and in a table that is marked
-pub record Aimed (F : Format) (t : List ℕ) (mark : Bool) (q : Target) : Type 0 where
-  pub is-marked : mark ≡ true
-  pub is-word : q .word < length t
-  pub is-granule : q .granule < 16
-  pub is-gpi : F .known (q .gpi) ≡ true
-  pub is-valid : F .valid (at t (q .word)) ≡ true
-
--- a mend is of any table
+-- a set is in a table that is marked; a mend is of any table
 abbrev pub May : Format → List ℕ → Bool → Act → Type 0
-May F t b (sets q) = Aimed F t b q
-May F t b (cuts q k) = Aimed F t b q
+May F t b (sets q) = (b ≡ true) × Aimed F t q
+May F t b (cuts q k) = (b ≡ true) × Aimed F t q
 May F t b (mends n) = Unit {0}
 
 -- ---- acts on the arena, one after the other
