@@ -1,4 +1,4 @@
--- What holds between the calls of shatter, over plain lists.
+-- What holds between the calls of a shatter, over plain lists. Of the crate `set_table`.
 -- Assumes nothing.
 use mathlib.Core.Path.{_≡_, refl}
 use mathlib.Core.List.{List, _++_}
@@ -21,10 +21,10 @@ use Rattle.l1.proofs.Sizes.{level-down, level-none}
 use Rattle.l1.proofs.Arm.{level-lt, contig-arm, granule-arm}
 use Rattle.stores.specs.declared.Tally.{Tally}
 use Rattle.set_table.specs.declared.Cut.{Cut}
-use Rattle.stores.specs.Done.{Done, Room, Placed}
-use Rattle.set_table.specs.Cuts.{Cuts}
+use Rattle.stores.specs.Done.{Done, Room}
+use Rattle.set_table.specs.Inner.{Placed, Cuts}
 use Rattle.stores.proofs.Events.{after, kept-table, left}
-use Rattle.stores.proofs.Places.{Lies, lies, Fills}
+use Rattle.set_table.proofs.Places.{Lies, lies, Fills}
 
 -- a shatter by its parts, where n words are the part's
 parts : (u i g l n : ℕ) → n ≡ span u l
@@ -35,7 +35,8 @@ parts : (u i g l n : ℕ) → n ≡ span u l
 unfolding shatter span
 parts u i g l n e = rw e
 
-module _ {T L : List ℕ} {o i u : ℕ} {a : Tally} (p : Placed T i u) (s : Size) (r : Room T L o a (1 + 2 * levelOf s) (span u (levelOf s))) where
+module _ {T L : List ℕ} {o i u : ℕ} {a : Tally} (p : Placed T i u) (s : Size)
+    (r : Room T L o a (1 + 2 * levelOf s) (span u (levelOf s))) where
   -- ---- 2 MB
 
   pub last-fills : smallerOf s ≡ None → Fills T L o a (base u i) u
@@ -110,4 +111,5 @@ module _ {T L : List ℕ} {o i u : ℕ} {a : Tally} (p : Placed T i u) (s : Size
           → Done o (fillEvent (c .low) (c .before) w) T T₁ L L₁ a b → Done o (shatter arm u (num g) i (levelOf m)) T₁ T₂ L₁ L₂ b d
           → Done o (fillEvent (c .high) (c .after) w) T₂ T₃ L₂ L₃ d f → Done o (shatter arm u (num g) i (levelOf s)) T T₃ L L₃ a f
       all-done g q x y z =
-          rw (level-down s m e, parts u i (num g) (levelOf m) n is, ← contig-arm m g, ← q, ← k .after, ← k .high, ← k .before, ← k .low) (after (after x y) z)
+          rw (level-down s m e, parts u i (num g) (levelOf m) n is, ← contig-arm m g, ← q, ← k .after, ← k .high, ← k .before, ← k .low)
+          (after (after x y) z)

@@ -112,13 +112,14 @@ module _ (F : Format) (u : ℕ) (r : ℕ → ℕ) (g i : ℕ) where
       go Differs p q ih = h q
       go (Invalid a) p q ih = let z : _≡_ {A = ℕ} 0 1 = cc in absurd (omega arith)
 
+  pub climbed : (k : ℕ) → climb F u r g i 0 Nowhere 3 ≡ Level k → (k < 3) × (alike F r (span u k) i g ≡ true)
+  climbed k = climb-level 0 Nowhere 3 (omega arith) k (λ w. let z : _≡_ {A = ℕ} 0 1 = cc in absurd (omega arith))
+
 module _ (F : Format) (u : ℕ) (t : List ℕ) (q : Target) where
   -- a range that is fused was all of the new GPI before
   pub fusing-level : (l : ℕ) → fusing F u t q ≡ Level l → (l < 3) × (alike F (at (changed F u t q)) (span u l) (q .word) (q .gpi) ≡ true)
   unfolding fusing
-  fusing-level l e =
-      climb-level F u (at (changed F u t q)) (q .gpi) (q .word) 0 Nowhere 3 (omega arith) l
-      (λ w. let z : _≡_ {A = ℕ} 0 1 = cc in absurd (omega arith)) e
+  fusing-level l e = climbed F u (at (changed F u t q)) (q .gpi) (q .word) l e
 
   -- a P of every store of such a fuse is one of every store after the granule store
   pub each-fused : (P : Store → Type 0)

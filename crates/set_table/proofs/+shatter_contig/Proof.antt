@@ -1,4 +1,4 @@
--- The proof of the cycle of calls {shatter_contig}. The measure is the size code: 3, 2, 1.
+-- The proof of the cycle of calls {shatter_contig} of the crate `set_table`. The measure is the size code: 3, 2, 1.
 -- Assumes nothing.
 use mathlib.Core.Path.{_≡_, sym, _∙_}
 use Prim.Native.Nat.{ℕ, _<_}
@@ -13,7 +13,7 @@ use Rattle.gpi.proofs.Rules.{smaller-num}
 use Rattle.gpi.proofs.next_smaller.Reads as next-smaller-reads
 use Rattle.granules.proofs.granule.Reads as granule-reads
 use Rattle.l1.proofs.contig.Reads as contig-reads
-use Rattle.stores.proofs.Places.{Lies, still}
+use Rattle.set_table.proofs.Places.{Lies, still}
 use Rattle.set_table.proofs.Steps.{last-fills, last-done, part-lies, part-most, first-fills, inward-room, second-fills, all-done}
 use Rattle.set_table.proofs.shatter_contig.Reads as shatter
 use Rattle.set_table.proofs.shatter_contig.Kinds as kinds

@@ -10,7 +10,6 @@ use Rattle.theory.specs.Normal.{at, base}
 use Rattle.theory.specs.Set.{scan}
 use Rattle.l1.specs.declared.Match.{Match}
 use Rattle.l1.specs.Arm.{arm}
-use Rattle.set_table.specs.Scanned.{seen}
 use Rattle.set_table.proofs.Scans.{next, scan-at, scan-end}
 use Rattle.set_table.proofs.can_fuse.Statement.{statement}
 use Rattle.set_table.proofs.can_fuse.Tie as tie
@@ -18,7 +17,7 @@ use Rattle.set_table.proofs.can_fuse.Tie as tie
 abbrev Inv-loop : tie.InvT-loop
 Inv-loop table index words g k₀ end k =
     (base words index ≤ k) × (k ≤ base words index + words)
-    × (seen (scan arm (at table) (num g) (base words index) words) ≡ seen (scan arm (at table) (num g) k (base words index + words - k)))
+    × (scan arm (at table) (num g) (base words index) words ≡ scan arm (at table) (num g) k (base words index + words - k))
 
 abbrev μ-loop : tie.MeasureT-loop
 μ-loop table index words g k₀ end k = base words index + words - k
@@ -27,13 +26,14 @@ abbrev μ-loop : tie.MeasureT-loop
 sees : (c : tie.After-matches-gpi Inv-loop μ-loop) (m : Match) → c .matches-gpi .result ≡ m →
     let l = c .before .before .before in
     let a = l .before .before .args in
-    seen (scan arm (at (a .table .now)) (num (a .g)) (base (a .words) (a .index)) (a .words))
-    ≡ next m (seen (scan arm (at (a .table .now)) (num (a .g)) (l .loop .k + 1) (base (a .words) (a .index) + a .words - l .loop .k - 1)))
+    scan arm (at (a .table .now)) (num (a .g)) (base (a .words) (a .index)) (a .words)
+    ≡ next (l .loop .k) m (scan arm (at (a .table .now)) (num (a .g)) (l .loop .k + 1) (base (a .words) (a .index) + a .words - l .loop .k - 1))
 sees c m e =
     let l = c .before .before .before in
     let a = l .before .before .args in
     l .loop .inv .2
-    ∙ scan-at _ _ (l .loop .k) (base (a .words) (a .index) + a .words - l .loop .k) (omega arith) (c .before .shared-slice-known2 .given (l .loop .k) .fits) m (sym e ∙ c .matches-gpi .ensures)
+    ∙ scan-at _ _ (l .loop .k) (base (a .words) (a .index) + a .words - l .loop .k) (omega arith)
+    (c .before .shared-slice-known2 .given (l .loop .k) .fits) m (sym e ∙ c .matches-gpi .ensures)
 
 mul-k : tie.Need-mul-k Inv-loop μ-loop
 mul-k c = omega (arith, div-mul-le-self (c .before .args .index) (c .before .args .words))
@@ -41,7 +41,11 @@ mul-k c = omega (arith, div-mul-le-self (c .before .args .index) (c .before .arg
 loop-holds : tie.Need-loop-holds Inv-loop μ-loop
 loop-holds c =
     let a = c .before .args in
-    (le-refl _, omega arith, ap (λ (n : ℕ). seen (scan arm (at (a .table .now)) (num (a .g)) (base (a .words) (a .index)) n)) (sym (add-sub-cancel-left (base (a .words) (a .index)) (a .words))))
+    (
+      le-refl _,
+      omega arith,
+      ap (scan arm (at (a .table .now)) (num (a .g)) (base (a .words) (a .index))) (sym (add-sub-cancel-left (base (a .words) (a .index)) (a .words))),
+    )
 
 enum-told : tie.Need-enum-told Inv-loop μ-loop
 enum-told c = search needs
@@ -50,7 +54,8 @@ loop-again : tie.Need-loop-again Inv-loop μ-loop
 loop-again c =
     let l = c .before .before .before .before .before in
     let a = l .before .before .args in
-    let e : base (a .words) (a .index) + a .words - (l .loop .k + 1) ≡ base (a .words) (a .index) + a .words - l .loop .k - 1 = omega arith in
+    let n : ℕ = base (a .words) (a .index) + a .words in
+    let e : n - (l .loop .k + 1) ≡ n - l .loop .k - 1 = omega arith in
     (omega arith, omega arith, rw e (sees (c .before .before) _ (c .enum-told .given .1)))
 
 returns : tie.Need-returns Inv-loop μ-loop
