@@ -42,8 +42,8 @@ tally-is {o} {es} d = λ i. record { records = (d .records ∙ zero-add (length 
 
 -- ---- from the granule store on
 
-pub fuse-room : {o n i j w x b : ℕ} {t t₁ l l₁ l₂ : List ℕ} {a c d : Tally} → Room t l o a 5 (1 + n) → Done o (granule i j w ∷ []) t t₁ l l₁ a c
-    → Done o (barriers x b) t₁ t₁ l₁ l₂ c d → Room t₁ l₂ o d 1 n
+pub fuse-room : {o n i j w x b : ℕ} {t t₁ l l₁ l₂ : List ℕ} {a c d : Tally} → Room t l o a 5 (1 + n)
+    → Done o (granule i j w ∷ []) t t₁ l l₁ a c → Done o (barriers x b) t₁ t₁ l₁ l₂ c d → Room t₁ l₂ o d 1 n
 unfolding count
 fuse-room {o} {n} r y z = left z 4 n 1 n (left y 5 (1 + n) 4 n r (omega arith) (omega arith)) (omega arith) (omega arith)
 
@@ -61,50 +61,55 @@ module _ (F : Format) (u : ℕ) (q : Target) where
       let c : m ≡ scanned F u t q = f ∙ ap scans (x .table ∙ ap (set t (q .word)) is) in
       record { tally = e; done = rw (← c, ← is) (after (after x y) z); answer = n ∙ ap (λ (v : Fused). answerOf v e) c }
 
--- ---- the whole
+-- ---- before the granule store
 
-module _ (F : Format) (L : Laws F) (u : ℕ) (pos : 0 < u) (o : ℕ) (t l : List ℕ) (q : Target) (i< : q .word < length t) where
-  -- the events before the granule store
-  abbrev before : List Event
+module _ (F : Format) (u : ℕ) (t : List ℕ) (q : Target) where
+  abbrev pub before : List Event
   before = broken F u t (q .word) ++ brokenBarriers (q .address) (F .size (at t (q .word)))
 
-  module _ {t₁ l₁ : List ℕ} {a : Tally} (d : Done o before t t₁ l l₁ fresh a) where
-    broken-is : t₁ ≡ apply t (stores (broken F u t (q .word)))
-    broken-is =
-        d .table ∙ ap (apply t) (stores-append (broken F u t (q .word)) (brokenBarriers (q .address) (F .size (at t (q .word))))
-        ∙ rw (stores-barriers (q .address) (F .size (at t (q .word)))) (append-nil _))
-
-    stored-is : stored F t₁ q ≡ newWord F t q
-    unfolding newWord
-    stored-is =
-        ap (λ (w : ℕ). F .put w (q .granule) (q .gpi)) (ap (λ (v : List ℕ). at v (q .word)) broken-is ∙ broken-at F L u pos t (q .word) i<)
-
-    scanned-is : scanned F u t₁ q ≡ fusing F u t q
-    unfolding fusing changed
-    scanned-is = ap (scans F u q) (ap₂ (λ (v : List ℕ) (w : ℕ). set v (q .word) w) broken-is stored-is)
-
-    events-are : before ++ grantEvents F u t₁ q ≡ setEvents F u t q
-    unfolding setEvents storeEvents
-    events-are =
-        ap₂ (λ (w : ℕ) (f : Fused).
-        before ++ ((granule (q .word) (q .granule) w ∷ barriers (q .address) (q .bytes)) ++ fused F u (q .gpi) (q .word) f)) stored-is scanned-is
-        ∙ sym (append-assoc before (granule (q .word) (q .granule) (newWord F t q) ∷ barriers (q .address) (q .bytes)) _)
-
-    pub finish : {t₂ l₂ : List ℕ} {r : Answer} → Made o (grantEvents F u t₁ q) (answerOf (scanned F u t₁ q)) t₁ t₂ l₁ l₂ a r
-        → Made o (setEvents F u t q) (answerOf (fusing F u t q)) t t₂ l l₂ fresh r
-    finish m =
-        record { tally = m .tally; done = rw (← events-are) (after d (m .done)); answer = m .answer ∙ ap (λ (f : Fused). answerOf f (m .tally)) scanned-is }
-
-  -- ---- the two kinds of valid entry
-
-  pub granules-done : F .size (at t (q .word)) ≡ 0 → Done o before t t l l fresh fresh
+  pub granules-done : (o : ℕ) (l : List ℕ) → F .size (at t (q .word)) ≡ 0 → Done o before t t l l fresh fresh
   unfolding broken breaks brokenBarriers
-  granules-done e = rw e (none o t l fresh)
+  granules-done o l e = rw e (none o t l fresh)
 
   pub contiguous-is : (g k : ℕ) → gpi F (at t (q .word)) ≡ g → F .size (at t (q .word)) ≡ suc k
       → shatter F u g (q .word) k ++ barriers (q .address) (bytes k) ≡ before
   unfolding broken breaks brokenBarriers
   contiguous-is g k x y = rw (x, y) refl
+
+-- ---- the whole
+
+module _ (F : Format) (L : Laws F) (u : ℕ) (pos : 0 < u) {o : ℕ} {t t₁ l l₁ : List ℕ} {a : Tally} (q : Target) (i< : q .word < length t)
+    (d : Done o (before F u t q) t t₁ l l₁ fresh a) where
+  broken-is : t₁ ≡ apply t (stores (broken F u t (q .word)))
+  broken-is =
+      d .table ∙ ap (apply t) (stores-append (broken F u t (q .word)) (brokenBarriers (q .address) (F .size (at t (q .word))))
+      ∙ rw (stores-barriers (q .address) (F .size (at t (q .word)))) (append-nil _))
+
+  stored-is : stored F t₁ q ≡ newWord F t q
+  unfolding newWord
+  stored-is =
+      ap (λ (w : ℕ). F .put w (q .granule) (q .gpi)) (ap (λ (v : List ℕ). at v (q .word)) broken-is ∙ broken-at F L u pos t (q .word) i<)
+
+  scanned-is : scanned F u t₁ q ≡ fusing F u t q
+  unfolding fusing changed
+  scanned-is = ap (scans F u q) (ap₂ (λ (v : List ℕ) (w : ℕ). set v (q .word) w) broken-is stored-is)
+
+  events-are : before F u t q ++ grantEvents F u t₁ q ≡ setEvents F u t q
+  unfolding setEvents storeEvents
+  events-are =
+      rw (scanned-is, stored-is)
+      (sym (append-assoc (before F u t q) (granule (q .word) (q .granule) (newWord F t q) ∷ barriers (q .address) (q .bytes)) _))
+
+  pub finish : {t₂ l₂ : List ℕ} {r : Answer} → Made o (grantEvents F u t₁ q) (answerOf (scanned F u t₁ q)) t₁ t₂ l₁ l₂ a r
+      → Made o (setEvents F u t q) (answerOf (fusing F u t q)) t t₂ l l₂ fresh r
+  finish m =
+      record {
+        tally = m .tally;
+        done = rw (← events-are) (after d (m .done));
+        answer = m .answer ∙ ap (λ (f : Fused). answerOf f (m .tally)) scanned-is;
+      }
+
+-- ---- the two kinds of valid entry
 
 -- a contiguous entry of the Arm format: its size code, its GPI, its bytes
 module _ (w : ℕ) (h : Gpi) (s : Size) (e : l1Of w ≡ Contiguous h s) where

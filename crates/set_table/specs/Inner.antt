@@ -20,8 +20,8 @@ pub record Placed (t : List ℕ) (i u : ℕ) : Type 0 where
   pub inside : base (span u 2) i + span u 2 ≤ length t
   pub small : length t < 2 ^ 62
 
--- how the range of sixteen parts around i is cut at the part that holds i: "the part before, then the part holding the address by the same rule
--- one size down, then the part after"
+-- how the range of sixteen parts around i is cut at the part that holds i: "the part before, then the part holding the address by the same
+-- rule one size down, then the part after"
 pub record Cuts (i part : ℕ) (c : Cut) : Type 0 where
   pub low : c .low ≡ base (16 * part) i
   pub before : c .before ≡ base part i - base (16 * part) i

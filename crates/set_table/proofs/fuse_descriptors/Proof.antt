@@ -1,12 +1,13 @@
 -- `set_table::fuse_descriptors` meets its contract. The loop keeps that the levels left say the same as all of them.
 -- Assumes nothing.
 use mathlib.Core.Path.{_≡_, refl, sym, _∙_}
-use Prim.Native.Nat.{_+_, _-_, _≤_}
+use Prim.Native.Nat.{ℕ, _+_, _-_, _≤_}
 use native.Mathlib.Numerals.{add-one}
 use native.Mathlib.Omega.{arith}
 use borrow.Author.Needs.{needs}
 use Rattle.gpi.specs.Gpi.{num}
 use Rattle.theory.specs.declared.Scan.{Scan}
+use Rattle.theory.specs.declared.Fused.{Fused}
 use Rattle.theory.specs.declared.Fused.the-variants.{Nowhere, Level}
 use Rattle.theory.specs.Normal.{at, span}
 use Rattle.theory.specs.Set.{onScan, climb}
@@ -24,19 +25,25 @@ Inv-loop table index unit g level₀ words₀ best₀ level words best =
 abbrev μ-loop : tie.MeasureT-loop
 μ-loop table index unit g level₀ words₀ best₀ level words best = 3 - level
 
+-- n levels from l on
+abbrev levels : tie.Start Inv-loop μ-loop → ℕ → Fused → ℕ → Fused
+levels s l best n = climb arm (s .args .unit) (at (s .args .table .now)) (num (s .args .g)) (s .args .index) l best n
+
 -- where the range of the level lies
-within : (c : tie.In-loop Inv-loop μ-loop) → Lies (c .before .before .before .args .table .now) (c .before .before .before .args .index) (c .before .loop .words)
+within : (c : tie.In-loop Inv-loop μ-loop) →
+    let s = c .before .before .before in
+    Lies (s .args .table .now) (s .args .index) (c .before .loop .words)
 within c = lies (c .before .before .before .pre) (c .before .loop .level) _ (omega arith) (c .before .loop .inv .1)
 
 -- what all the levels come to, by the scan of this one and the levels after it
 climbs : (c : tie.After-can-fuse Inv-loop μ-loop) (s : Scan) → c .can-fuse .result ≡ s →
     let l = c .before .before .loop in
-    let a = c .before .before .before .before .args in
-    climb arm (a .unit) (at (a .table .now)) (num (a .g)) (a .index) 0 Nowhere 3
-    ≡ onScan s (climb arm (a .unit) (at (a .table .now)) (num (a .g)) (a .index) (l .level + 1) (Level (l .level)) (3 - l .level - 1)) (l .best)
+    let a = c .before .before .before .before in
+    levels a 0 Nowhere 3 ≡ onScan s (levels a (l .level + 1) (Level (l .level)) (3 - l .level - 1)) (l .best)
 climbs c s e =
     let l = c .before .before .loop in
-    l .inv .2 ∙ climb-at arm _ _ _ _ (l .level) (3 - l .level) (l .words) (l .best) s (omega arith) (l .inv .1) (sym e ∙ c .can-fuse .ensures)
+    l .inv .2
+    ∙ climb-at arm _ _ _ _ (l .level) (3 - l .level) (l .words) (l .best) s (omega arith) (l .inv .1) (sym e ∙ c .can-fuse .ensures)
 
 loop-holds : tie.Need-loop-holds Inv-loop μ-loop
 unfolding span

@@ -64,10 +64,10 @@ returns c =
     let q = s .args .q in
     let z = h .h .given .0 .1 .0 in
     let e = sym (l .l1-entry .ensures) ∙ h .h .given .1 in
-    let w = contiguous-is arm arm-laws (q .unit) (s .pre .0 .least) (q .offset) (s .args .table .now) (s .args .log .now) (targetOf q) (s .pre .0 .index)
-    _ _ (gpi-is _ _ z e) (size-is _ _ z e) in
-    rw (ap validOf e) (finish arm arm-laws (q .unit) (s .pre .0 .least) _ _ _ (targetOf q) (s .pre .0 .index)
-    (rw (← bytes-are z, w) at (b .break-up .ensures)) (g .set-granule .ensures))
+    let w = contiguous-is arm (q .unit) (s .args .table .now) (targetOf q) _ _ (gpi-is _ _ z e) (size-is _ _ z e) in
+    rw (ap validOf e)
+    (finish arm arm-laws (q .unit) (s .pre .0 .least) (targetOf q) (s .pre .0 .index) (rw (← bytes-are z, w) at (b .break-up .ensures))
+    (g .set-granule .ensures))
 
 same-length-3 : tie.Need-same-length-3
 same-length-3 c = c .before .before .before .before .set-granule2 .kept .0
@@ -83,8 +83,9 @@ returns-2 c =
     let s = l .before .before .before .before in
     let e = sym (l .l1-entry .ensures) ∙ n .enum-told .given .1 in
     let q = s .args .q in
-    rw (ap validOf e) (finish arm arm-laws (q .unit) (s .pre .0 .least) _ _ _ (targetOf q) (s .pre .0 .index)
-    (granules-done arm arm-laws (q .unit) (s .pre .0 .least) _ _ _ (targetOf q) (s .pre .0 .index) (ap sizeOf e)) (g .set-granule2 .ensures))
+    rw (ap validOf e)
+    (finish arm arm-laws (q .unit) (s .pre .0 .least) (targetOf q) (s .pre .0 .index)
+    (granules-done arm (q .unit) _ (targetOf q) _ _ (ap sizeOf e)) (g .set-granule2 .ensures))
 
 returns-3 : tie.Need-returns-3
 returns-3 c =
