@@ -72,10 +72,8 @@ pub fn shatter_contig(
 ) -> Tally
     requires { ⌜ Placed (now table) (q .index) (q .unit) ⌝ }
     requires { ⌜ Room (now table) (now log) (q .offset) t (1 + 2 * levelOf size) (spanOf (q .unit) (levelOf size)) ⌝ }
-    ensures { λ r. ⌜
-        Done (q .offset) (shatter arm (q .unit) (num g) (q .index) (levelOf size))
-            (now (table .entry)) (now (table .exit)) (now (log .entry)) (now (log .exit)) t r
-    ⌝ }
+    ensures { λ r. ⌜ Done (q .offset) (shatter arm (q .unit) (num g) (q .index) (levelOf size))
+        (now (table .entry)) (now (table .exit)) (now (log .entry)) (now (log .exit)) t r ⌝ }
 {
     let offset = q.offset;
     let index = q.index;
@@ -102,10 +100,8 @@ pub fn shatter_contig(
 pub fn break_up(table: &mut [u64], log: &mut [u64], q: SetAt, size: Size, g: Gpi) -> Tally
     requires { ⌜ Placed (now table) (q .index) (q .unit) ⌝ }
     requires { ⌜ Room (now table) (now log) (q .offset) fresh 8 (spanOf (q .unit) 2) ⌝ }
-    ensures { λ r. ⌜
-        Done (q .offset) (shatter arm (q .unit) (num g) (q .index) (levelOf size) ++ barriersOf (q .address .0) (bytesOf size))
-            (now (table .entry)) (now (table .exit)) (now (log .entry)) (now (log .exit)) fresh r
-    ⌝ }
+    ensures { λ r. ⌜ Done (q .offset) (shatter arm (q .unit) (num g) (q .index) (levelOf size) ++ barriersOf (q .address .0) (bytesOf size))
+        (now (table .entry)) (now (table .exit)) (now (log .entry)) (now (log .exit)) fresh r ⌝ }
 {
     let t = Tally {
         records: 0,
@@ -183,10 +179,8 @@ pub fn fuse(table: &mut [u64], log: &mut [u64], t: Tally, q: SetAt, m: Fused) ->
     requires { ⌜ Placed (now table) (q .index) (q .unit) ⌝ }
     requires { ⌜ ((l : ℕ) → m ≡ Level l → l < 3) ⌝ }
     requires { ⌜ Room (now table) (now log) (q .offset) t 1 (spanOf (q .unit) 2) ⌝ }
-    ensures { λ r. ⌜
-        Done (q .offset) (fused arm (q .unit) (num (q .gpi)) (q .index) m)
-            (now (table .entry)) (now (table .exit)) (now (log .entry)) (now (log .exit)) t r
-    ⌝ }
+    ensures { λ r. ⌜ Done (q .offset) (fused arm (q .unit) (num (q .gpi)) (q .index) m)
+        (now (table .entry)) (now (table .exit)) (now (log .entry)) (now (log .exit)) t r ⌝ }
 {
     match m {
         Fused::Nowhere => t,
@@ -223,11 +217,9 @@ fn set_granule(table: &mut [u64], log: &mut [u64], t: Tally, q: SetAt) -> Answer
     requires { ⌜ Placed (now table) (q .index) (q .unit) ⌝ }
     requires { ⌜ q .granule < 16 ⌝ }
     requires { ⌜ Room (now table) (now log) (q .offset) t 5 (1 + spanOf (q .unit) 2) ⌝ }
-    ensures { λ r. ⌜
-        Made (q .offset) (grantEvents arm (q .unit) (now (table .entry)) (targetOf q))
-            (answerOf (scanned arm (q .unit) (now (table .entry)) (targetOf q)))
-            (now (table .entry)) (now (table .exit)) (now (log .entry)) (now (log .exit)) t r
-    ⌝ }
+    ensures { λ r. ⌜ Made (q .offset) (grantEvents arm (q .unit) (now (table .entry)) (targetOf q))
+        (answerOf (scanned arm (q .unit) (now (table .entry)) (targetOf q)))
+        (now (table .entry)) (now (table .exit)) (now (log .entry)) (now (log .exit)) t r ⌝ }
 {
     let i = q.index;
     let g = q.gpi;
@@ -245,10 +237,8 @@ pub fn set_table(table: &mut [u64], log: &mut [u64], q: SetAt) -> Answer
     requires { ⌜ Placed (now table) (q .index) (q .unit) ⌝ }
     requires { ⌜ q .granule < 16 ⌝ }
     requires { ⌜ Room (now table) (now log) (q .offset) fresh 13 (2 * spanOf (q .unit) 2 + 1) ⌝ }
-    ensures { λ r. ⌜
-        Made (q .offset) (happens q (now (table .entry))) (answers q (now (table .entry)))
-            (now (table .entry)) (now (table .exit)) (now (log .entry)) (now (log .exit)) fresh r
-    ⌝ }
+    ensures { λ r. ⌜ Made (q .offset) (happens q (now (table .entry))) (answers q (now (table .entry)))
+        (now (table .entry)) (now (table .exit)) (now (log .entry)) (now (log .exit)) fresh r ⌝ }
 {
     let i = q.index;
     match l1::l1_entry(table[i]) {

@@ -40,9 +40,8 @@ pub fn fill_descs(
 ) -> Tally
     requires { ⌜ at + count ≤ length (now table) ⌝ }
     requires { ⌜ Room (now table) (now log) offset t 1 count ⌝ }
-    ensures { λ r. ⌜
-        Done offset (fillEvent at count word) (now (table .entry)) (now (table .exit)) (now (log .entry)) (now (log .exit)) t r
-    ⌝ }
+    ensures { λ r. ⌜ Done offset (fillEvent at count word)
+        (now (table .entry)) (now (table .exit)) (now (log .entry)) (now (log .exit)) t r ⌝ }
 {
     if count == 0 {
         return t;
@@ -72,9 +71,8 @@ pub fn store_granule(
 ) -> Tally
     requires { ⌜ at < length (now table) ⌝ }
     requires { ⌜ Room (now table) (now log) offset t 1 1 ⌝ }
-    ensures { λ r. ⌜
-        Done offset (granuleStored at granule word ∷ []) (now (table .entry)) (now (table .exit)) (now (log .entry)) (now (log .exit)) t r
-    ⌝ }
+    ensures { λ r. ⌜ Done offset (granuleStored at granule word ∷ [])
+        (now (table .entry)) (now (table .exit)) (now (log .entry)) (now (log .exit)) t r ⌝ }
 {
     table[at] = word;
     let n = t.records;
@@ -88,9 +86,8 @@ pub fn store_granule(
 // DSB OSHST, TLBI of the bytes at the address, DSB OSH.
 pub fn barriers(log: &mut [u64], t: Tally, address: PA, bytes: u64) -> Tally
     requires { ⌜ 4 * (t .records + 3) ≤ length (now log) ⌝ }
-    ensures { λ r. ⌜
-        ((o : ℕ) (table : List ℕ) → Done o (barriersOf (address .0) bytes) table table (now (log .entry)) (now (log .exit)) t r)
-    ⌝ }
+    ensures { λ r. ⌜ ((o : ℕ) (table : List ℕ)
+        → Done o (barriersOf (address .0) bytes) table table (now (log .entry)) (now (log .exit)) t r) ⌝ }
 {
     let n = t.records;
     log_record(log, n, 2, 0, 0, 0);

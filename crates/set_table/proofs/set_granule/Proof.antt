@@ -34,8 +34,7 @@ fuse-requires c κs =
     let m = c .before .before in
     let b = m .before .before .before .before in
     let d = b .before .before .before .before .before .before in
-    let s = d .before .before .before .before .before .before .before .before in
-    (
+    let s = d .before .before .before .before .before .before .before .before in (
       still (d .store-granule .ensures) (s .pre .0),
       (
         λ l e. climbed arm _ _ _ _ l (sym (m .fuse-descriptors .ensures) ∙ e) .0,

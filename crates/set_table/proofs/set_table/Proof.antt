@@ -27,8 +27,7 @@ set-granule-requires c κs =
     let b = c .before .before .before .before .before .before in
     let h = b .before .before .before .before in
     let s = h .before .before .before .before .before .before in
-    let z = h .h .given .0 .1 .0 in
-    (
+    let z = h .h .given .0 .1 .0 in (
       still (b .break-up .ensures) (s .pre .0),
       (s .pre .1 .0, grant-room arm (s .args .q .unit) (levelOf z) (level-lt z) _ _ (s .pre .1 .1) _ _ (b .break-up .ensures)),
     )
