@@ -1,4 +1,5 @@
--- The history theorem: at every moment of any acts, every granule of every table reads as the ideal says, and the marked tables are whole.
+-- An act on one of several tables in one arena keeps that every granule of every table reads as the ideal says, and that the marked tables are
+-- whole. Of the crate `theory`.
 -- Assumes nothing.
 use mathlib.Core.Path.{_≡_, refl, sym, ap, _∙_}
 use mathlib.Core.Bool.{Bool, true, false, _&&_, not, cond}
@@ -9,20 +10,21 @@ use native.Mathlib.Decide.{ℕ-discrete}
 use native.Mathlib.Omega.{arith}
 use borrow.Author.Tests.{eq-eqb, ne-eqb, ltb-true, ltb-false}
 use lib.Dec.{eqb, ltb}
-use lib.ListN.{length, take}
+use lib.ListN.{length}
 use Rattle.theory.specs.Format.{Format, Laws, reading}
 use Rattle.theory.specs.Normal.{at, span}
 use Rattle.theory.specs.Stores.{apply, cut}
 use Rattle.theory.specs.Mend.{mend, mends as several}
 use Rattle.theory.specs.Set.{Target, Agrees, Aimed, lead, setStores, changedFlat}
 use Rattle.theory.specs.Whole.{Whole}
-use Rattle.theory.specs.Moves.{Part, tableAt, laid, Apart, Act, sets, cuts, mends, acted, actMark, Ideal, updated, actIdeal, May, Move, State, move, moves, Allowed, Kept}
+use Rattle.theory.specs.Arena.{tableAt, laid}
+use Rattle.theory.specs.Moves.{Part, Apart, Act, sets, cuts, mends, acted, actMark, Ideal, updated, actIdeal, May, Move, State, move, Kept}
 use Rattle.theory.proofs.Lists.{map-at}
-use Rattle.theory.proofs.Stores.{length-apply, length-cut, length-part}
+use Rattle.theory.proofs.Stores.{length-apply, length-cut}
 use Rattle.theory.proofs.Mend.{length-mend, flat-mend}
 use Rattle.theory.proofs.Cut.{same-reading, new-target, new-outside, flat-before, flat-after, flat-set}
 use Rattle.theory.proofs.Whole.{whole-agrees, set-whole, mends-whole}
-use Rattle.theory.proofs.Parts.{at-table, length-laid, laid-in, table-laid, laid-other, table-other}
+use Rattle.theory.proofs.Arena.{table-word, length-table, length-laid, laid-in, table-laid, laid-other, table-other}
 
 length-acted : (F : Format) (u : ℕ) (a : Act) (t : List ℕ) → length (acted F u a t) ≡ length t
 length-acted F u (sets q) t = length-apply t (setStores F u t q)
@@ -96,7 +98,7 @@ module _ (F : Format) (L : Laws F) (u : ℕ) (u-pos : 0 < u) where
   module _ (ps : ℕ → Part) where
     -- ---- an act on the arena
 
-    module _ (m : Move) (S : State) (K : Kept F u ps S) (x : May F (tableAt (ps (m .table)) (S .arena)) (S .marks (m .table)) (m .act)) where
+    module _ (m : Move) (S : State) (K : Kept F u ps S) (x : May F (tableAt (ps (m .table) .offset) (ps (m .table) .words) (S .arena)) (S .marks (m .table)) (m .act)) where
       abbrev p : Part
       p = ps (m .table)
 
@@ -104,16 +106,16 @@ module _ (F : Format) (L : Laws F) (u : ℕ) (u-pos : 0 < u) where
       A = S .arena
 
       abbrev t : List ℕ
-      t = tableAt (ps (m .table)) (S .arena)
+      t = tableAt (p .offset) (p .words) A
 
       abbrev t′ : List ℕ
-      t′ = acted F u (m .act) (tableAt (ps (m .table)) (S .arena))
+      t′ = acted F u (m .act) t
 
       fits : p .offset + p .words ≤ length A
       fits = K .parts .inside (m .table)
 
       len : length t ≡ p .words
-      len = length-part A (p .offset) (p .words) fits
+      len = length-table (p .offset) (p .words) A fits
 
       len′ : length t′ ≡ p .words
       len′ = length-acted F u (m .act) t ∙ len
@@ -127,46 +129,38 @@ module _ (F : Format) (L : Laws F) (u : ℕ) (u-pos : 0 < u) where
       -- One act leaves an arena of the same length,
       pub length-move : length (move F u ps m S .arena) ≡ length A
       unfolding move
-      length-move = length-laid p A fits t′ len′
+      length-move = length-laid (p .offset) (p .words) A fits t′ len′
 
       -- and keeps what holds.
       pub move-kept : Kept F u ps (move F u ps m S)
       unfolding move
       move-kept =
           record {
-            parts = record { inside = λ e. rw (length-laid p A fits t′ len′) (K .parts .inside e); regions = K .parts .regions; apart = K .parts .apart };
+            parts = record { inside = λ e. rw (length-laid (p .offset) (p .words) A fits t′ len′) (K .parts .inside e); regions = K .parts .regions; apart = K .parts .apart };
             whole = λ e q. whole e (ℕ-discrete e (m .table)) q;
             reads = λ e i j b j<. reads e i j b j< (ℕ-discrete e (m .table));
           }
         where
           whole : (e : ℕ) → Dec (e ≡ m .table) → cond (eqb e (m .table)) (actMark (p .words) (m .act) (S .marks e)) (S .marks e) ≡ true
-              → Whole F u (tableAt (ps e) (laid p A t′))
+              → Whole F u (tableAt (ps e .offset) (ps e .words) (laid (p .offset) (p .words) A t′))
           whole e (yes y) q =
               let q′ : actMark (p .words) (m .act) (S .marks (m .table)) ≡ true = rw (y, eq-eqb (m .table) (m .table) refl) at q in
-              rw (y, table-laid p A fits t′ len′)
+              rw (y, table-laid (p .offset) (p .words) A fits t′ len′)
               (acted-whole t _ regs (S .marks (m .table)) (K .whole (m .table)) (m .act) x (rw len q′))
           whole e (no y) q =
-              rw (table-other p A fits t′ len′ (ps e) (K .parts .inside e) (far e y)) (K .whole e (rw (ne-eqb e (m .table) y) at q))
+              rw (table-other (p .offset) (p .words) A fits t′ len′ (ps e .offset) (ps e .words) (K .parts .inside e) (far e y))
+              (K .whole e (rw (ne-eqb e (m .table) y) at q))
 
-          here : (i j : ℕ) → i < p .words → j < 16 → reading F (at (laid p A t′) (p .offset + i)) j ≡ actIdeal F u (m .table) (m .act) t (S .ideal) (m .table) i j
+          here : (i j : ℕ) → i < p .words → j < 16
+              → reading F (at (laid (p .offset) (p .words) A t′) (p .offset + i)) j ≡ actIdeal F u (m .table) (m .act) t (S .ideal) (m .table) i j
           here i j b j< =
-              ap (λ v. reading F v j) (laid-in p A fits t′ len′ i b)
+              ap (λ v. reading F v j) (laid-in (p .offset) (p .words) A fits t′ len′ i b)
               ∙ acted-reads t _ regs (S .marks (m .table)) (K .whole (m .table)) (m .act) x (m .table) (S .ideal) i j j<
-              (ap (λ v. reading F v j) (at-table p A i b) ∙ K .reads (m .table) i j b j<)
+              (ap (λ v. reading F v j) (table-word (p .offset) (p .words) A i b) ∙ K .reads (m .table) i j b j<)
 
           reads : (e i j : ℕ) → i < ps e .words → j < 16 → Dec (e ≡ m .table)
-              → reading F (at (laid p A t′) (ps e .offset + i)) j ≡ actIdeal F u (m .table) (m .act) t (S .ideal) e i j
+              → reading F (at (laid (p .offset) (p .words) A t′) (ps e .offset + i)) j ≡ actIdeal F u (m .table) (m .act) t (S .ideal) e i j
           reads e i j b j< (yes y) = rw y (here i j (rw y at b) j<)
           reads e i j b j< (no y) =
-              ap (λ v. reading F v j) (laid-other p A fits t′ len′ (ps e) (far e y) i b)
+              ap (λ v. reading F v j) (laid-other (p .offset) (p .words) A fits t′ len′ (ps e .offset) (ps e .words) (far e y) i b)
               ∙ K .reads e i j b j< ∙ away F u (m .table) (m .act) t (S .ideal) e i j y
-
-    -- ---- THE HISTORY THEOREM
-
-    -- After any number of any acts, sets only in marked tables and mends anywhere: every granule of every table reads as the ideal says, and the
-    -- marked tables are whole.
-    pub history : (ms : List Move) (S : State) → Kept F u ps S → Allowed F u ps ms S → (k : ℕ) → Kept F u ps (moves F u ps (take k ms) S)
-    unfolding moves
-    history ms S K a zero = K
-    history [] S K a (suc k) = K
-    history (m ∷ ms) S K a (suc k) = history ms (move F u ps m S) (move-kept m S K (a .0)) (a .1) k

@@ -1,6 +1,7 @@
 pub mod Format
 pub mod Normal
 pub mod Stores
+pub mod Arena
 pub mod Events
 pub mod Set
 pub mod Mend

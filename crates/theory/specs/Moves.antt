@@ -1,5 +1,5 @@
--- Several tables in one arena, and what happens to them over time: sets, sets cut after any number of stores, mends of any limit, in any order.
--- Beside the arena stand the marks, which tables are known to be whole, and the ideal, what each granule ought to read.
+-- Several tables in one arena, and what is done to one of them: a set, a set cut after any number of stores, a mend of any limit. Beside the
+-- arena stand the marks, which tables are known to be whole, and the ideal, what each granule ought to read. Of the crate `theory`.
 -- Assumes nothing.
 use mathlib.Core.Path.{_≡_}
 use mathlib.Core.Logic.{_≢_, _⊎_}
@@ -7,12 +7,12 @@ use mathlib.Core.Bool.{Bool, true, false, _&&_, cond, not}
 use mathlib.Core.Option.{Option, some}
 use mathlib.Core.List.{List, [], _∷_}
 use Prim.Native.Nat.{ℕ, _+_, _*_, _≤_, _<_}
-use borrow.Rule.Slice.PartMut.{midOf, putMid}
 use lib.Dec.{eqb, ltb}
 use lib.ListN.{length}
 use Rattle.theory.specs.Format.{Format, reading}
 use Rattle.theory.specs.Normal.{at, span}
 use Rattle.theory.specs.Stores.{apply, cut}
+use Rattle.theory.specs.Arena.{tableAt, laid}
 use Rattle.theory.specs.Mend.{mend}
 use Rattle.theory.specs.Set.{Target, lead, setStores, Aimed}
 use Rattle.theory.specs.Whole.{Whole}
@@ -22,13 +22,6 @@ use Rattle.theory.specs.Whole.{Whole}
 pub record Part : Type 0 where
   pub offset : ℕ
   pub words : ℕ
-
--- the table at p; and the arena with t in its place
-abbrev pub tableAt : Part → List ℕ → List ℕ
-tableAt p A = midOf (p .offset) (p .words) A
-
-abbrev pub laid : Part → List ℕ → List ℕ → List ℕ
-laid p A t = putMid (p .offset) (p .words) A t
 
 -- no word in common
 abbrev pub Apart : Part → Part → Type 0
@@ -83,7 +76,7 @@ May F t b (sets q) = (b ≡ true) × Aimed F t q
 May F t b (cuts q k) = (b ≡ true) × Aimed F t q
 May F t b (mends n) = Unit {0}
 
--- ---- acts on the arena, one after the other
+-- ---- an act on the arena
 
 pub record Move : Type 0 where
   pub table : ℕ
@@ -97,24 +90,15 @@ pub record State : Type 0 where
 unfoldable pub move : Format → ℕ → (ℕ → Part) → Move → State → State
 move F u ps m S =
     let p : Part = ps (m .table) in
-    let t : List ℕ = tableAt p (S .arena) in
+    let t : List ℕ = tableAt (p .offset) (p .words) (S .arena) in
     record {
-      arena = laid p (S .arena) (acted F u (m .act) t);
+      arena = laid (p .offset) (p .words) (S .arena) (acted F u (m .act) t);
       marks = λ e. cond (eqb e (m .table)) (actMark (p .words) (m .act) (S .marks e)) (S .marks e);
       ideal = actIdeal F u (m .table) (m .act) t (S .ideal);
     }
 
-unfoldable pub moves : Format → ℕ → (ℕ → Part) → List Move → State → State
-moves F u ps [] S = S
-moves F u ps (m ∷ ms) S = moves F u ps ms (move F u ps m S)
-
--- each may be made when it is its turn
-abbrev pub Allowed : Format → ℕ → (ℕ → Part) → List Move → State → Type 0
-Allowed F u ps [] S = Unit {0}
-Allowed F u ps (m ∷ ms) S = May F (tableAt (ps (m .table)) (S .arena)) (S .marks (m .table)) (m .act) × Allowed F u ps ms (move F u ps m S)
-
 -- what holds at every moment: the tables are apart, the marked ones are whole, and every granule of every table reads as the ideal says
 pub record Kept (F : Format) (u : ℕ) (ps : ℕ → Part) (S : State) : Type 0 where
   pub parts : Parts u (length (S .arena)) ps
-  pub whole : (e : ℕ) → S .marks e ≡ true → Whole F u (tableAt (ps e) (S .arena))
+  pub whole : (e : ℕ) → S .marks e ≡ true → Whole F u (tableAt (ps e .offset) (ps e .words) (S .arena))
   pub reads : (e i j : ℕ) → i < ps e .words → j < 16 → reading F (at (S .arena) (ps e .offset + i)) j ≡ S .ideal e i j
