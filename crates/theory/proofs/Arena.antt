@@ -1,5 +1,5 @@
--- A table that stands in an arena, in the crate `theory`: laid in its place it is there, and the words around it stay; stores made in the arena
--- where it stands are made in the table.
+-- A table that stands in an arena, in the crate `theory`: laid in its place it is there, and the words around it stay; stores made in the
+-- arena where it stands are made in the table.
 -- Assumes nothing.
 use mathlib.Core.Path.{_≡_, refl, sym, ap, ap₂, _∙_}
 use mathlib.Core.Logic.{_⊎_, inl, inr}
@@ -107,4 +107,5 @@ table-other o n A fits t len p m f apart =
     let e : length (tableAt p m (laid o n A t)) ≡ m = length-table p m (laid o n A t) (omega (arith, length-laid o n A fits t len)) in
     ext-getD 0 (tableAt p m (laid o n A t)) (tableAt p m A) (e ∙ sym (length-table p m A f))
     (λ i b.
-    table-word p m (laid o n A t) i (omega arith) ∙ laid-other o n A fits t len p m apart i (omega arith) ∙ sym (table-word p m A i (omega arith)))
+    table-word p m (laid o n A t) i (omega arith) ∙ laid-other o n A fits t len p m apart i (omega arith)
+    ∙ sym (table-word p m A i (omega arith)))

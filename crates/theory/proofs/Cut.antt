@@ -1,5 +1,5 @@
--- A set cut after any number of its stores, of one table: what it reads, and what mends make of it. These are demand 3's clauses for a table
--- whose entry at the address agrees.
+-- A set cut after any number of its stores, of one table: what it reads, and what mends make of it. These are demand 3's clauses for a
+-- table whose entry at the address agrees. Of the crate `theory`.
 -- Assumes nothing.
 use mathlib.Core.Path.{_≡_, refl, sym, ap, _∙_}
 use mathlib.Core.Logic.{_≢_}
@@ -78,7 +78,8 @@ module _ (F : Format) (L : Laws F) (t : List ℕ) (q : Target) (a : Aimed F t q)
         ∙ List·getD-map (F .flat) t m 0
 
     valid-target : F .valid (at s (q .word)) ≡ true
-    valid-target = cc (L .valid-flat (at s (q .word)), flat-target, L .put-valid w (q .granule) (q .gpi) (a .is-valid) (a .is-granule) (a .is-gpi))
+    valid-target =
+        cc (L .valid-flat (at s (q .word)), flat-target, L .put-valid w (q .granule) (q .gpi) (a .is-valid) (a .is-granule) (a .is-gpi))
 
     -- The target reads its new GPI,
     pub new-target : reading F (at s (q .word)) (q .granule) ≡ some (q .gpi)
@@ -92,7 +93,8 @@ module _ (F : Format) (L : Laws F) (t : List ℕ) (q : Target) (a : Aimed F t q)
       where
         go : Dec (m ≡ q .word) → reading F (at s m) n ≡ reading F (at t m) n
         go (yes p) =
-            rw (p, valid-target, flat-target, L .put-other w (q .granule) (q .gpi) n (a .is-valid) (a .is-granule) (a .is-gpi) n< (o p), a .is-valid) refl
+            let e = L .put-other w (q .granule) (q .gpi) n (a .is-valid) (a .is-granule) (a .is-gpi) n< (o p) in
+            rw (p, valid-target, flat-target, e, a .is-valid) refl
         go (no p) = same-reading F L (at s m) (at t m) n (flat-other m p)
 
   -- ---- what the stores keep
@@ -142,7 +144,8 @@ module _ (F : Format) (L : Laws F) (t : List ℕ) (q : Target) (a : Aimed F t q)
     unfolding lead
     flat-after k h =
         rw (stores-set F u t q)
-        (cut-after (F .flat) t (stores (broken F u t (q .word))) (granuleStore F t q) (stores (last F u t q)) broken-keeps (rw now fused-keeps) k h
+        (cut-after (F .flat) t (stores (broken F u t (q .word))) (granuleStore F t q) (stores (last F u t q)) broken-keeps
+        (rw now fused-keeps) k h
         ∙ now)
       where
         now : set (map (F .flat) t) (q .word) (F .flat (newWord F t q)) ≡ changedFlat F t q

@@ -1,4 +1,4 @@
--- The log tells the stores: read back from its own words it gives the stores of the set, in the arena.
+-- The log tells the stores: read back from its own words it gives the stores of the set, in the arena. Of the crate `theory`.
 -- Assumes nothing.
 use mathlib.Core.Path.{_≡_, _∙_}
 use mathlib.Core.List.{List}
@@ -21,7 +21,8 @@ pub log-tells : (F : Format) → Laws F → (u : ℕ) (t : List ℕ) (q : Target
 log-tells F L u t q o log long = logged-tells o (setEvents F u t q) log (omega (arith, at-most-13 F L u t q))
 
 -- a set in the table t that stands in the arena A at o, of n words, m ranges of 512 MB
-module _ (F : Format) (L : Laws F) (u : ℕ) (u-pos : 0 < u) (A : List ℕ) (o n : ℕ) (fits : o + n ≤ length A) (m : ℕ) (regions : n ≡ m * span u 2)
+module _ (F : Format) (L : Laws F) (u : ℕ) (u-pos : 0 < u) (A : List ℕ) (o n : ℕ) (fits : o + n ≤ length A) (m : ℕ)
+    (regions : n ≡ m * span u 2)
     (q : Target) (i< : q .word < n) (log : List ℕ) (long : 52 ≤ length log) where
   abbrev t : List ℕ
   t = tableAt o n A

@@ -1,5 +1,5 @@
--- An act on one of several tables in one arena keeps that every granule of every table reads as the ideal says, and that the marked tables are
--- whole. Of the crate `theory`.
+-- An act on one of several tables in one arena keeps that every granule of every table reads as the ideal says, and that the marked tables
+-- are whole. Of the crate `theory`.
 -- Assumes nothing.
 use mathlib.Core.Path.{_≡_, refl, sym, ap, _∙_}
 use mathlib.Core.Bool.{Bool, true, false, _&&_, not, cond}
@@ -18,7 +18,8 @@ use Rattle.theory.specs.Mend.{mend, mends as several}
 use Rattle.theory.specs.Set.{Target, Agrees, Aimed, lead, setStores, changedFlat}
 use Rattle.theory.specs.Whole.{Whole}
 use Rattle.theory.specs.Arena.{tableAt, laid}
-use Rattle.theory.specs.Moves.{Part, Apart, Act, sets, cuts, mends, acted, actMark, Ideal, updated, actIdeal, May, Move, State, move, Kept}
+use Rattle.theory.specs.Moves.{Part, Apart, Act, sets, cuts, mends, acted, actMark, Ideal, updated, actIdeal, May}
+use Rattle.theory.specs.Moves.{Move, State, move, Kept}
 use Rattle.theory.proofs.Lists.{map-at}
 use Rattle.theory.proofs.Stores.{length-apply, length-cut}
 use Rattle.theory.proofs.Mend.{length-mend, flat-mend}
@@ -88,17 +89,20 @@ module _ (F : Format) (L : Laws F) (u : ℕ) (u-pos : 0 < u) where
         go : (y : Bool) → ltb (lead F u t (q .word)) k ≡ y
             → reading F (at (cut k t (setStores F u t q)) i) j ≡ cond {A = Ideal} y (updated f e q) f e i j
         go true p =
-            reads-new q (x .1) (cut k t (setStores F u t q)) (flat-after F L t q (x .1) u ag k (ltb-true (lead F u t (q .word)) k p)) e f i j j< h
+            reads-new q (x .1) (cut k t (setStores F u t q))
+            (flat-after F L t q (x .1) u ag k (ltb-true (lead F u t (q .word)) k p)) e f i j j< h
         go false p =
             same-reading F L (at (cut k t (setStores F u t q)) i) (at t i) j
-            (map-at (F .flat) (cut k t (setStores F u t q)) t (flat-before F L t q (x .1) u ag k (ltb-false (lead F u t (q .word)) k p)) i) ∙ h
+            (map-at (F .flat) (cut k t (setStores F u t q)) t
+            (flat-before F L t q (x .1) u ag k (ltb-false (lead F u t (q .word)) k p)) i) ∙ h
     acted-reads (mends n) x e f i j j< h =
         same-reading F L (at (mend F u n t) i) (at t i) j (map-at (F .flat) (mend F u n t) t (flat-mend F L u u-pos n t) i) ∙ h
 
   module _ (ps : ℕ → Part) where
     -- ---- an act on the arena
 
-    module _ (m : Move) (S : State) (K : Kept F u ps S) (x : May F (tableAt (ps (m .table) .offset) (ps (m .table) .words) (S .arena)) (S .marks (m .table)) (m .act)) where
+    module _ (m : Move) (S : State) (K : Kept F u ps S)
+        (x : May F (tableAt (ps (m .table) .offset) (ps (m .table) .words) (S .arena)) (S .marks (m .table)) (m .act)) where
       abbrev p : Part
       p = ps (m .table)
 
@@ -136,7 +140,12 @@ module _ (F : Format) (L : Laws F) (u : ℕ) (u-pos : 0 < u) where
       unfolding move
       move-kept =
           record {
-            parts = record { inside = λ e. rw (length-laid (p .offset) (p .words) A fits t′ len′) (K .parts .inside e); regions = K .parts .regions; apart = K .parts .apart };
+            parts =
+                record {
+                  inside = λ e. rw (length-laid (p .offset) (p .words) A fits t′ len′) (K .parts .inside e);
+                  regions = K .parts .regions;
+                  apart = K .parts .apart;
+                };
             whole = λ e q. whole e (ℕ-discrete e (m .table)) q;
             reads = λ e i j b j<. reads e i j b j< (ℕ-discrete e (m .table));
           }
@@ -152,7 +161,8 @@ module _ (F : Format) (L : Laws F) (u : ℕ) (u-pos : 0 < u) where
               (K .whole e (rw (ne-eqb e (m .table) y) at q))
 
           here : (i j : ℕ) → i < p .words → j < 16
-              → reading F (at (laid (p .offset) (p .words) A t′) (p .offset + i)) j ≡ actIdeal F u (m .table) (m .act) t (S .ideal) (m .table) i j
+              → reading F (at (laid (p .offset) (p .words) A t′) (p .offset + i)) j
+              ≡ actIdeal F u (m .table) (m .act) t (S .ideal) (m .table) i j
           here i j b j< =
               ap (λ v. reading F v j) (laid-in (p .offset) (p .words) A fits t′ len′ i b)
               ∙ acted-reads t _ regs (S .marks (m .table)) (K .whole (m .table)) (m .act) x (m .table) (S .ideal) i j j<

@@ -1,5 +1,5 @@
--- The parts of a set: its stores in three lots, what its scans find, where its stores lie, how many records and stores it
--- makes.
+-- The parts of a set: its stores in three lots, what its scans find, where its stores lie, how many records and stores it makes. Of the
+-- crate `theory`.
 -- Assumes nothing.
 use mathlib.Core.Path.{_≡_, refl, sym, _∙_}
 use mathlib.Core.Bool.{Bool, true, false, _&&_, cond}
@@ -84,7 +84,8 @@ broken-at F L u u-pos t i b = go (F .size (at t i)) refl
 
 -- ---- after it: what the scans find
 
-scan-step : (v x : Bool) (s : Scan) (k : ℕ) (y : Bool) → cond v (cond x s Differs) (Invalid k) ≡ All → (s ≡ All → y ≡ true) → (x && y) ≡ true
+scan-step : (v x : Bool) (s : Scan) (k : ℕ) (y : Bool) → cond v (cond x s Differs) (Invalid k) ≡ All → (s ≡ All → y ≡ true)
+    → (x && y) ≡ true
 scan-step true true s k y e h = h e
 scan-step true false s k y e h = cc
 scan-step false x s k y e h = cc
@@ -93,14 +94,16 @@ scan-every : (F : Format) (r : ℕ → ℕ) (g a n : ℕ) → scan F r g a n ≡
 unfolding scan every
 scan-every F r g a zero e = refl
 scan-every F r g a (suc n) e =
-    scan-step (F .valid (r a)) (reads F (r a) g) (scan F r g (suc a) n) a (every (λ j. reads F (r j) g) (suc a) n) e (scan-every F r g (suc a) n)
+    scan-step (F .valid (r a)) (reads F (r a) g) (scan F r g (suc a) n) a (every (λ j. reads F (r j) g) (suc a) n) e
+    (scan-every F r g (suc a) n)
 
 module _ (F : Format) (u : ℕ) (r : ℕ → ℕ) (g i : ℕ) where
   abbrev Matched : ℕ → Type 0
   Matched k = (k < 3) × (alike F r (span u k) i g ≡ true)
 
   -- a climb that ends at a level has matched there
-  climb-level : (l : ℕ) (best : Fused) (n : ℕ) → l + n ≤ 3 → (k : ℕ) → (best ≡ Level k → Matched k) → climb F u r g i l best n ≡ Level k → Matched k
+  climb-level : (l : ℕ) (best : Fused) (n : ℕ) → l + n ≤ 3 → (k : ℕ) → (best ≡ Level k → Matched k) → climb F u r g i l best n ≡ Level k
+      → Matched k
   unfolding climb alike
   climb-level l best zero b k h e = h e
   climb-level l best (suc n) b k h e =
@@ -133,7 +136,8 @@ module _ (F : Format) (u : ℕ) (t : List ℕ) (q : Target) where
       go Nowhere e = tt
       go (Level l) e =
           rw (stores-fill (base (span u l) (q .word)) (span u l) (F .contig l (q .gpi)))
-          (each-fill P (base (span u l) (q .word)) (span u l) (F .contig l (q .gpi)) (λ k lo hi. h l e k (in-of (span u l) (q .word) k lo hi)))
+          (each-fill P (base (span u l) (q .word)) (span u l) (F .contig l (q .gpi))
+          (λ k lo hi. h l e k (in-of (span u l) (q .word) k lo hi)))
       go (Refused k) e = tt
 
   -- ---- in a table of m ranges of 512 MB every store of a set lies within the table
@@ -146,7 +150,8 @@ module _ (F : Format) (u : ℕ) (t : List ℕ) (q : Target) where
       let s : l < 3 = L .size-small (at t (q .word)) l e in
       let g : ℕ = gpi F (at t (q .word)) in
       let known : F .known g ≡ true = L .known-low (at t (q .word)) (L .size-valid (at t (q .word)) l e) in
-      each-of (Shatters F u g (q .word) l) (λ v. v .index < length t) (λ v h. omega (arith, h .1, range-in u u-pos t m regions (q .word) i< l s))
+      each-of (Shatters F u g (q .word) l) (λ v. v .index < length t)
+      (λ v h. omega (arith, h .1, range-in u u-pos t m regions (q .word) i< l s))
       (stores (shatter F u g (q .word) l)) (shatter-each F u g (q .word) L known l s)))
       (i<, each-fused (λ v. v .index < length t) (λ l e k h. in-table u u-pos t m regions (q .word) i< l k ((fusing-level l e) .0) h)))
 

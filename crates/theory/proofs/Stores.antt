@@ -60,7 +60,8 @@ pub apply-out : (t : List ℕ) (a n : ℕ) (ss : List Store) → Each (λ s. (a 
 unfolding apply
 apply-out t a n [] h k q = refl
 apply-out t a n (s ∷ ss) h k q =
-    apply-out (set t (s .index) (s .word)) a n ss (h .1) k q ∙ getD-set-other t (s .index) k (s .word) 0 (λ e. q (omega arith) (omega arith))
+    apply-out (set t (s .index) (s .word)) a n ss (h .1) k q
+    ∙ getD-set-other t (s .index) k (s .word) 0 (λ e. q (omega arith) (omega arith))
 
 -- ---- a fill
 
@@ -98,7 +99,8 @@ pub map-apply : (f : ℕ → ℕ) (t : List ℕ) (ss : List Store) → Keeps f (
 unfolding apply
 map-apply f t [] k = refl
 map-apply f t (s ∷ ss) k =
-    let e : map f (set t (s .index) (s .word)) ≡ map f t = map-set-same f t (s .index) (s .word) 0 (k .0 ∙ List·getD-map f t (s .index) 0) in
+    let e : map f (set t (s .index) (s .word)) ≡ map f t
+    = map-set-same f t (s .index) (s .word) 0 (k .0 ∙ List·getD-map f t (s .index) 0) in
     map-apply f (set t (s .index) (s .word)) ss (rw e (k .1)) ∙ e
 
 -- stores a, one store s, stores b: where those of a keep the old image and those of b the image with s made
@@ -116,6 +118,7 @@ module _ (f : ℕ → ℕ) (t : List ℕ) (a : List Store) (s : Store) (b : List
       let m : ℕ = k - suc (length a) in
       let e : k ≡ length a + suc m = omega arith in
       let t₂ : List ℕ = set (apply t a) (s .index) (s .word) in
-      let e₂ : map f t₂ ≡ set (map f t) (s .index) (f (s .word)) = map-set f (apply t a) (s .index) (s .word) ∙ rw (map-apply f t a ka) refl in
+      let e₂ : map f t₂ ≡ set (map f t) (s .index) (f (s .word))
+      = map-set f (apply t a) (s .index) (s .word) ∙ rw (map-apply f t a ka) refl in
       rw (e, take-append-add a (s ∷ b) (suc m), apply-append t a (s ∷ take m b))
       (map-apply f t₂ (take m b) (rw e₂ (each-take _ m b kb)) ∙ e₂)

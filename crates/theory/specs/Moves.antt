@@ -1,5 +1,6 @@
--- Several tables in one arena, and what is done to one of them: a set, a set cut after any number of stores, a mend of any limit. Beside the
--- arena stand the marks, which tables are known to be whole, and the ideal, what each granule ought to read. Of the crate `theory`.
+-- Several tables in one arena, and what is done to one of them: a set, a set cut after any number of stores, a mend of any limit. Beside
+-- the arena stand the marks, which tables are known to be whole, and the ideal, what each granule ought to read. The crate `history` says the
+-- same of the real calls and proves it by these; nothing else speaks of them. Of the crate `theory`.
 -- Assumes nothing.
 use mathlib.Core.Path.{_≡_}
 use mathlib.Core.Logic.{_≢_, _⊎_}
@@ -27,7 +28,8 @@ pub record Part : Type 0 where
 abbrev pub Apart : Part → Part → Type 0
 Apart p q = (p .offset + p .words ≤ q .offset) ⊎ (q .offset + q .words ≤ p .offset)
 
--- tables by number, in an arena of n words: inside it, of whole 512 MB regions, apart from each other. A number that has no table has an empty one
+-- tables by number, in an arena of n words: inside it, of whole 512 MB regions, apart from each other. A number that has no table has an
+-- empty one
 pub record Parts (u n : ℕ) (ps : ℕ → Part) : Type 0 where
   pub inside : (e : ℕ) → ps e .offset + ps e .words ≤ n
   pub regions : (e : ℕ) → (m : ℕ) × (ps e .words ≡ m * span u 2)
@@ -49,8 +51,8 @@ acted F u (sets q) t = apply t (setStores F u t q)
 acted F u (cuts q k) t = cut k t (setStores F u t q)
 acted F u (mends n) t = mend F u n t
 
--- whether a table of n words is then known to be whole: a finished set leaves it as it was; a cut makes it doubtful, and so does a mend that its
--- limit may have stopped; a mend that no limit can stop makes it whole
+-- whether a table of n words is then known to be whole: a finished set leaves it as it was; a cut makes it doubtful, and so does a mend
+-- that its limit may have stopped; a mend that no limit can stop makes it whole
 abbrev pub actMark : ℕ → Act → Bool → Bool
 actMark n (sets q) b = b
 actMark n (cuts q k) b = false

@@ -1,5 +1,5 @@
--- Document 01, "Set, step by step": what a set of one granule of an L1 table does, as events computed from the table; agreement; and the new
--- granules, said by themselves. Of the crate `theory`.
+-- Document 01, "Set, step by step": what a set of one granule of an L1 table does, as events computed from the table; agreement; and the
+-- new granules, said by themselves. Of the crate `theory`.
 -- Assumes nothing.
 use mathlib.Core.Path.{_≡_}
 use mathlib.Core.Bool.{true, cond}
@@ -15,7 +15,8 @@ use Rattle.theory.specs.declared.Scan.the-variants.{All, Differs, Invali
 use Rattle.theory.specs.declared.Fused.{Fused}
 use Rattle.theory.specs.declared.Fused.the-variants.{Nowhere, Level, Refused}
 
--- what a set is asked: which granule of which word is made which GPI; and what its barriers tell, the address as given and the granule's bytes
+-- what a set is asked: which granule of which word is made which GPI; and what its barriers tell, the address as given and the granule's
+-- bytes
 pub record Target : Type 0 where
   pub word : ℕ
   pub granule : ℕ
@@ -38,8 +39,8 @@ bytes l = span 2097152 l
 
 -- ---- shattering
 
--- "the aligned range S is refilled at the next smaller size: the part before, then the part holding the address by the same rule one size down,
--- then the part after; 2 MB becomes words of sixteen g"
+-- "the aligned range S is refilled at the next smaller size: the part before, then the part holding the address by the same rule one size
+-- down, then the part after; 2 MB becomes words of sixteen g"
 unfoldable pub shatter : Format → ℕ → ℕ → ℕ → ℕ → List Event
 shatter F u g i zero = fillEvent (base u i) u (F .rep g)
 shatter F u g i (suc l) =
@@ -69,8 +70,8 @@ brokenBarriers x (suc l) = barriers x (bytes l)
 unfoldable pub newWord : Format → List ℕ → Target → ℕ
 newWord F t q = F .put (F .flat (at t (q .word))) (q .granule) (q .gpi)
 
--- how many stores a set of word i makes before its granule store, which are those of the shatter: a cut after k stores is before the granule
--- store if k ≤ lead, and after it if lead < k
+-- how many stores a set of word i makes before its granule store, which are those of the shatter: a cut after k stores is before the
+-- granule store if k ≤ lead, and after it if lead < k
 unfoldable pub lead : Format → ℕ → List ℕ → ℕ → ℕ
 lead F u t i = length (stores (broken F u t i))
 
@@ -80,7 +81,8 @@ changed F u t q = set (apply t (stores (broken F u t (q .word)))) (q .word) (new
 
 -- ---- fusing
 
--- "A scan stops at the first word that isn't all the new GPI (no match) or is invalid": n words from a. Of an invalid word it tells the index
+-- "A scan stops at the first word that isn't all the new GPI (no match) or is invalid": n words from a. Of an invalid word it tells the
+-- index
 unfoldable pub scan : Format → (ℕ → ℕ) → ℕ → ℕ → ℕ → Scan
 scan F r g a zero = All
 scan F r g a (suc n) = cond (F .valid (r a)) (cond (reads F (r a) g) (scan F r g (suc a) n) Differs) (Invalid a)
