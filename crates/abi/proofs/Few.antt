@@ -16,7 +16,7 @@ use Rattle.theory.specs.Events.{granule, count}
 use Rattle.theory.specs.Set.{Fused, nowhere, level, refused, barriers, breaks, broken, brokenBarriers, newWord, fusing, fused, storeEvents, setEvents}
 use Rattle.theory.proofs.Mend.{mendCount-is, differing-few}
 use Rattle.theory.proofs.Set.{at-most-13, count-append, count-fill, count-shatter, fusing-level}
-use Rattle.theory.proofs.Arena.{table-length}
+use Rattle.theory.proofs.Arena.{length-table}
 use Rattle.config.specs.Format.{formatOf}
 use Rattle.config.proofs.Format.{format-laws}
 use Rattle.resolve.specs.declared.Site.{Site}

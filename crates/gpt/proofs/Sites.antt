@@ -9,7 +9,7 @@ use lib.ListN.{length}
 use Rattle.gpi.specs.declared.Gpi.{Gpi}
 use Rattle.theory.specs.Normal.{at, span}
 use Rattle.theory.specs.Arena.{tableAt, laid}
-use Rattle.theory.proofs.Arena.{table-length}
+use Rattle.theory.proofs.Arena.{length-table}
 use Rattle.l1.specs.Arm.{arm}
 use Rattle.config.specs.declared.Config.{Config}
 use Rattle.resolve.specs.declared.Site.{Site}

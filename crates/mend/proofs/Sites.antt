@@ -6,7 +6,7 @@ use Prim.Native.Nat.{ℕ, _+_, _≤_, _<_, _^_}
 use native.Mathlib.Omega.{arith}
 use lib.ListN.{length}
 use Rattle.theory.specs.Arena.{tableAt, laid}
-use Rattle.theory.proofs.Arena.{table-length}
+use Rattle.theory.proofs.Arena.{length-table}
 use Rattle.l1.specs.Arm.{arm}
 use Rattle.resolve.specs.declared.Call.the-variants.{Plain}
 use Rattle.resolve.specs.declared.Place.{Place}

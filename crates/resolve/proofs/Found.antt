@@ -90,19 +90,19 @@ over-place q A e call y =
 -- T is laid in the place of the table of x
 module _ {q : Lent} {x : ℕ} {w : Widths} {s : Site} (f : Found q x w s) where
   pub table-length : length (tableIn q s) ≡ s .words
-  table-length = arena.table-length (s .start) (s .words) (q .arena) (f .sited .fits)
+  table-length = arena.length-table (s .start) (s .words) (q .arena) (f .sited .fits)
 
   module _ (T : List ℕ) (len : length T ≡ s .words) where
     pub lay-length : length (layIn q s T .arena) ≡ length (q .arena)
-    lay-length = arena.laid-length (s .start) (s .words) (q .arena) (f .sited .fits) T len
+    lay-length = arena.length-laid (s .start) (s .words) (q .arena) (f .sited .fits) T len
 
     -- it is there,
     pub lay-table : tableIn (layIn q s T) s ≡ T
-    lay-table = arena.laid-table (s .start) (s .words) (q .arena) (f .sited .fits) T len
+    lay-table = arena.table-laid (s .start) (s .words) (q .arena) (f .sited .fits) T len
 
     -- another may be laid over it,
     pub lay-again : (v : List ℕ) → layIn (layIn q s T) s v ≡ layIn q s v
-    lay-again v = ap (over q) (arena.laid-again (s .start) (s .words) (q .arena) (f .sited .fits) T len v)
+    lay-again v = ap (over q) (arena.laid-laid (s .start) (s .words) (q .arena) (f .sited .fits) T len v)
 
     -- and every address that names the table lies where it lay
     pub lay-place : (y : ℕ) → Names w x y → placed (layIn q s T) y ≡ Table (siteAt w s y)

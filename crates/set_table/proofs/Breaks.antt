@@ -1,37 +1,33 @@
--- What holds between the calls of a break-up, over plain lists, and what room it leaves.
+-- What holds between the calls of a break-up, over plain lists, and what room it leaves. Of the crate `set_table`.
 -- Assumes nothing.
 use mathlib.Core.List.{List, _++_}
-use Prim.Native.Nat.{ℕ, _+_, _*_, _≤_}
+use Prim.Native.Nat.{ℕ, _+_, _*_, _≤_, _<_}
 use native.Mathlib.Omega.{arith}
 use lib.ListN.{length, length-append}
-use Rattle.gpi.specs.declared.Size.{Size}
+use Rattle.theory.specs.Format.{Format}
 use Rattle.theory.specs.Normal.{span}
 use Rattle.theory.specs.Events.{count}
 use Rattle.theory.specs.Set.{barriers, shatter}
 use Rattle.theory.proofs.Set.{few-shatter, count-append, count-shatter}
-use Rattle.l1.specs.Arm.{arm, levelOf}
-use Rattle.l1.proofs.Arm.{level-lt}
 use Rattle.stores.specs.declared.Tally.{Tally}
-use Rattle.stores.specs.Done.{Done, Room, fresh, Placed}
-use Rattle.stores.proofs.Places.{level-least}
+use Rattle.stores.specs.Done.{Done, Room, fresh}
 use Rattle.stores.proofs.Events.{left, less}
+use Rattle.set_table.proofs.Places.{level-least}
 
-module _ {T L : List ℕ} {o i u : ℕ} (p : Placed T i u) (r : Room T L o fresh 8 (span u 2)) (s : Size) where
-  level-span : span u (levelOf s) ≤ span u 2
-  level-span = level-least u (levelOf s) (level-lt s)
+module _ (F : Format) (u : ℕ) {T L : List ℕ} {o : ℕ} (l : ℕ) (l< : l < 3) where
+  pub shatter-room : Room T L o fresh 8 (span u 2) → Room T L o fresh (1 + 2 * l) (span u l)
+  shatter-room r = less 8 (span u 2) (1 + 2 * l) (span u l) r (omega arith) (level-least u l l<)
 
-  pub shatter-room : Room T L o fresh (1 + 2 * levelOf s) (span u (levelOf s))
-  shatter-room = less 8 (span u 2) (1 + 2 * levelOf s) (span u (levelOf s)) r (omega (arith, level-lt s)) level-span
+  module _ (g i : ℕ) {T′ L′ : List ℕ} {a : Tally} where
+    pub barriers-room : Room T L o fresh 8 (span u 2) → Done o (shatter F u g i l) T T′ L L′ fresh a → 4 * (a .records + 3) ≤ length L′
+    barriers-room r d =
+        left d 8 (span u 2) 3 0 r (omega (arith, few-shatter F u g i l)) (omega (arith, count-shatter F u g i l, level-least u l l<)) .room
 
-  pub barriers-room : (g : ℕ) {T′ L′ : List ℕ} {a : Tally} → Done o (shatter arm u g i (levelOf s)) T T′ L L′ fresh a → 4 * (a .records + 3) ≤ length L′
-  barriers-room g d =
-      left d 8 (span u 2) 3 0 r (omega (arith, few-shatter arm u g i (levelOf s), level-lt s)) (omega (arith, count-shatter arm u g i (levelOf s), level-span)) .room
-
-  -- and what they leave of a set's room
-  pub grant-room : Room T L o fresh 13 (2 * span u 2 + 1) → (g x b : ℕ) {T′ L′ : List ℕ} {a : Tally}
-      → Done o (shatter arm u g i (levelOf s) ++ barriers x b) T T′ L L′ fresh a → Room T′ L′ o a 5 (1 + span u 2)
-  unfolding count
-  grant-room w g x b d =
-      left d 13 (2 * span u 2 + 1) 5 (1 + span u 2) w
-      (simp length-append (omega (arith, few-shatter arm u g i (levelOf s), level-lt s)))
-      (simp count-append (omega (arith, count-shatter arm u g i (levelOf s), level-span)))
+    -- and what they leave of a set's room
+    pub grant-room : Room T L o fresh 13 (2 * span u 2 + 1) → (x b : ℕ) → Done o (shatter F u g i l ++ barriers x b) T T′ L L′ fresh a
+        → Room T′ L′ o a 5 (1 + span u 2)
+    unfolding count
+    grant-room r x b d =
+        left d 13 (2 * span u 2 + 1) 5 (1 + span u 2) r
+        (simp length-append (omega (arith, few-shatter F u g i l)))
+        (simp count-append (omega (arith, count-shatter F u g i l, level-least u l l<)))

@@ -1,5 +1,6 @@
-pub mod Fuses
-pub mod Scans
-pub mod Sets
-pub mod Steps
+pub mod Places
 pub mod Breaks
+pub mod Steps
+pub mod Scans
+pub mod Fuses
+pub mod Sets

@@ -1,6 +1,6 @@
--- What holds between the calls of shatter, over plain lists.
+-- What holds between the calls of a shatter, over plain lists. Of the crate `set_table`.
 -- Assumes nothing.
-use mathlib.Core.Path.{_≡_, refl}
+use mathlib.Core.Path.{_≡_, refl, _∙_}
 use mathlib.Core.List.{List, _++_}
 use Prim.Native.Nat.{ℕ, suc, _+_, _-_, _*_, _≤_}
 use native.Mathlib.Omega.{arith}
@@ -20,11 +20,12 @@ use Rattle.l1.specs.Arm.{arm, levelOf}
 use Rattle.l1.proofs.Sizes.{level-down, level-none}
 use Rattle.l1.proofs.Arm.{level-lt, contig-arm, granule-arm}
 use Rattle.stores.specs.declared.Tally.{Tally}
+use Rattle.set_table.specs.declared.SetAt.{SetAt}
 use Rattle.set_table.specs.declared.Cut.{Cut}
-use Rattle.stores.specs.Done.{Done, Room, Placed}
-use Rattle.set_table.specs.Cuts.{Cuts}
-use Rattle.stores.proofs.Events.{after, kept-table, left}
-use Rattle.stores.proofs.Places.{Lies, lies, Fills}
+use Rattle.stores.specs.Done.{Done, Room}
+use Rattle.set_table.specs.Inner.{Placed, Cuts}
+use Rattle.stores.proofs.Events.{after, kept-table, less, left}
+use Rattle.set_table.proofs.Places.{Lies, lies, Fills}
 
 -- a shatter by its parts, where n words are the part's
 parts : (u i g l n : ℕ) → n ≡ span u l
@@ -35,79 +36,95 @@ parts : (u i g l n : ℕ) → n ≡ span u l
 unfolding shatter span
 parts u i g l n e = rw e
 
-module _ {T L : List ℕ} {o i u : ℕ} {a : Tally} (p : Placed T i u) (s : Size) (r : Room T L o a (1 + 2 * levelOf s) (span u (levelOf s))) where
-  -- ---- 2 MB
+-- ---- 2 MB
 
-  pub last-fills : smallerOf s ≡ None → Fills T L o a (base u i) u
+module _ {T L : List ℕ} {o i u : ℕ} {a : Tally} (p : Placed T i u) (s : Size) (z : smallerOf s ≡ None) where
+  pub last-fills : Room T L o a (1 + 2 * levelOf s) (span u (levelOf s)) → Fills T L o a (base u i) u
   unfolding span
-  last-fills e =
-      let z : levelOf s ≡ 0 = level-none s e in
-      (lies p 0 u (omega arith) refl .inside, rw z at r)
+  last-fills r = (lies p 0 u (omega arith) refl .inside, rw (level-none s z) at r)
 
-  pub last-done : (g : Gpi) → smallerOf s ≡ None → {w : ℕ} → w ≡ granuleWord (replicate 16 g) → {T′ L′ : List ℕ} {b : Tally}
+  pub last-done : (g : Gpi) {w : ℕ} → w ≡ granuleWord (replicate 16 g) → {T′ L′ : List ℕ} {b : Tally}
       → Done o (fillEvent (base u i) u w) T T′ L L′ a b → Done o (shatter arm u (num g) i (levelOf s)) T T′ L L′ a b
   unfolding shatter
-  last-done g e q d = rw (level-none s e, ← granule-arm g, ← q) d
+  last-done g q d = rw (level-none s z, ← granule-arm g, ← q) d
 
-  -- ---- more
+-- ---- more
 
-  module _ (m : Size) (e : smallerOf s ≡ Is m) (n : ℕ) (is : n ≡ span u (levelOf m)) where
-    pub part-lies : Lies T i n
-    part-lies = lies p (levelOf m) n (level-lt m) is
+-- what is known where the range of the size s is to be cut: m is the next smaller size, n its words
+pub record Parted (T L : List ℕ) (q : SetAt) (a : Tally) (s m : Size) (n : ℕ) : Type 0 where
+  pub placed : Placed T (q .index) (q .unit)
+  pub room : Room T L (q .offset) a (1 + 2 * levelOf s) (span (q .unit) (levelOf s))
+  pub smaller : smallerOf s ≡ Is m
+  pub words : n ≡ span (q .unit) (levelOf m)
 
-    -- sixteen parts to the whole
-    whole : 16 * n ≡ span u (levelOf s)
-    unfolding span
-    whole = rw (level-down s m e, is)
+module _ {T L : List ℕ} {q : SetAt} {a : Tally} {s m : Size} {n : ℕ} (p : Parted T L q a s m n) where
+  abbrev i : ℕ
+  i = q .index
 
-    whole-lies : Lies T i (16 * n)
-    whole-lies = lies p (levelOf s) (16 * n) (level-lt s) whole
+  abbrev u : ℕ
+  u = q .unit
 
-    pub part-most : n ≤ 512
-    part-most = omega (arith, whole-lies .most)
+  abbrev o : ℕ
+  o = q .offset
 
-    module _ {c : Cut} (k : Cuts i n c) where
-      lo : base (16 * n) i ≤ base n i
-      lo = base-lo n i
+  pub part-lies : Lies T i n
+  part-lies = lies (p .placed) (levelOf m) n (level-lt m) (p .words)
 
-      hi : base n i + n ≤ base (16 * n) i + 16 * n
-      hi = base-hi n i
+  -- sixteen parts to the whole
+  whole : 16 * n ≡ span u (levelOf s)
+  unfolding span
+  whole = rw (level-down s m (p .smaller), p .words)
 
-      -- the parts of the cut make up the whole
-      sum : c .before + n + c .after ≡ 16 * n
-      sum = omega (arith, lo, hi, k .before, k .after)
+  whole-lies : Lies T i (16 * n)
+  whole-lies = lies (p .placed) (levelOf s) (16 * n) (level-lt s) whole
 
-      roomy : Room T L o a (3 + 2 * levelOf m) (16 * n)
-      roomy = record { arena = r .arena; room = omega (arith, r .room, level-down s m e); few = omega (arith, r .few, whole) }
+  pub part-most : n ≤ 512
+  part-most = omega (arith, whole-lies .most)
 
-      pub first-fills : Fills T L o a (c .low) (c .before)
-      first-fills = (
-        omega (arith, lo, hi, k .low, k .before, whole-lies .inside),
-        record { arena = r .arena; room = omega (arith, roomy .room); few = omega (arith, roomy .few, sum) },
-      )
+  module _ {c : Cut} (k : Cuts i n c) where
+    lo : base (16 * n) i ≤ base n i
+    lo = base-lo n i
 
-      module _ (w : ℕ) {T₁ L₁ : List ℕ} {b : Tally} (x : Done o (fillEvent (c .low) (c .before) w) T T₁ L L₁ a b) where
-        first-left : Room T₁ L₁ o b (2 + 2 * levelOf m) (n + c .after)
-        first-left =
-            left x (3 + 2 * levelOf m) (16 * n) (2 + 2 * levelOf m) (n + c .after) roomy
-            (omega (arith, few (c .low) (c .before) w)) (omega (arith, count-fill (c .low) (c .before) w, sum))
+    hi : base n i + n ≤ base (16 * n) i + 16 * n
+    hi = base-hi n i
 
-        pub inward-room : Room T₁ L₁ o b (1 + 2 * levelOf m) (span u (levelOf m))
-        inward-room =
-            rw (← is) record { arena = first-left .arena; room = omega (arith, first-left .room); few = omega (arith, first-left .few) }
+    -- the parts of the cut make up the whole
+    sum : c .before + n + c .after ≡ 16 * n
+    sum = omega (arith, lo, hi, k .before, k .after)
 
-        module _ (g : ℕ) {T₂ L₂ : List ℕ} {d : Tally} (y : Done o (shatter arm u g i (levelOf m)) T₁ T₂ L₁ L₂ b d) where
-          pub second-fills : Fills T₂ L₂ o d (c .high) (c .after)
-          second-fills =
-              let t₁ : length T₁ ≡ length T = kept-table x in
-              let t₂ : length T₂ ≡ length T₁ = kept-table y in (
-                omega (arith, lo, hi, k .high, k .after, whole-lies .inside),
-                left y (2 + 2 * levelOf m) (n + c .after) 1 (c .after) first-left
-                    (omega (arith, few-shatter arm u g i (levelOf m))) (omega (arith, count-shatter arm u g i (levelOf m), is)),
-              )
+    roomy : Room T L o a (3 + 2 * levelOf m) (c .before + n + c .after)
+    roomy = rw (sum, whole, ← level-up) (p .room)
+      where
+        level-up : 1 + 2 * levelOf s ≡ 3 + 2 * levelOf m
+        level-up = omega (arith, level-down s m (p .smaller))
 
-      pub all-done : (g : Gpi) {w : ℕ} {T₁ L₁ T₂ L₂ T₃ L₃ : List ℕ} {b d f : Tally} → w ≡ contigWord m g
-          → Done o (fillEvent (c .low) (c .before) w) T T₁ L L₁ a b → Done o (shatter arm u (num g) i (levelOf m)) T₁ T₂ L₁ L₂ b d
-          → Done o (fillEvent (c .high) (c .after) w) T₂ T₃ L₂ L₃ d f → Done o (shatter arm u (num g) i (levelOf s)) T T₃ L L₃ a f
-      all-done g q x y z =
-          rw (level-down s m e, parts u i (num g) (levelOf m) n is, ← contig-arm m g, ← q, ← k .after, ← k .high, ← k .before, ← k .low) (after (after x y) z)
+    pub first-fills : Fills T L o a (c .low) (c .before)
+    first-fills = (
+      omega (arith, lo, hi, k .low, k .before, whole-lies .inside),
+      less (3 + 2 * levelOf m) _ 1 (c .before) roomy (omega arith) (omega arith),
+    )
+
+    module _ (w : ℕ) {T₁ L₁ : List ℕ} {b : Tally} (x : Done o (fillEvent (c .low) (c .before) w) T T₁ L L₁ a b) where
+      first-left : Room T₁ L₁ o b (2 + 2 * levelOf m) (n + c .after)
+      first-left =
+          left x (3 + 2 * levelOf m) _ (2 + 2 * levelOf m) (n + c .after) roomy
+          (omega (arith, few (c .low) (c .before) w)) (omega (arith, count-fill (c .low) (c .before) w))
+
+      pub inward-room : Room T₁ L₁ o b (1 + 2 * levelOf m) (span u (levelOf m))
+      inward-room = rw (← p .words) (less (2 + 2 * levelOf m) (n + c .after) (1 + 2 * levelOf m) n first-left (omega arith) (omega arith))
+
+      pub second-fills : (g : ℕ) {T₂ L₂ : List ℕ} {d : Tally} → Done o (shatter arm u g i (levelOf m)) T₁ T₂ L₁ L₂ b d
+          → Fills T₂ L₂ o d (c .high) (c .after)
+      second-fills g {T₂} y =
+          let e : length T₂ ≡ length T = kept-table y ∙ kept-table x in (
+            omega (arith, lo, hi, k .high, k .after, whole-lies .inside),
+            left y (2 + 2 * levelOf m) (n + c .after) 1 (c .after) first-left
+                (omega (arith, few-shatter arm u g i (levelOf m))) (omega (arith, count-shatter arm u g i (levelOf m), p .words)),
+          )
+
+    pub all-done : (g : Gpi) {w : ℕ} {T₁ L₁ T₂ L₂ T₃ L₃ : List ℕ} {b d f : Tally} → w ≡ contigWord m g
+        → Done o (fillEvent (c .low) (c .before) w) T T₁ L L₁ a b → Done o (shatter arm u (num g) i (levelOf m)) T₁ T₂ L₁ L₂ b d
+        → Done o (fillEvent (c .high) (c .after) w) T₂ T₃ L₂ L₃ d f → Done o (shatter arm u (num g) i (levelOf s)) T T₃ L L₃ a f
+    all-done g e x y z =
+        rw (level-down s m (p .smaller), parts u i (num g) (levelOf m) n (p .words), ← contig-arm m g, ← e)
+        (rw (← k .after, ← k .high, ← k .before, ← k .low) (after (after x y) z))

@@ -1,3 +1,2 @@
-pub mod Scanned
 pub mod Table
-pub mod Cuts
+pub mod Inner

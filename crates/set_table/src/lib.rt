@@ -1,26 +1,40 @@
 // A contiguous entry broken up: its range refilled at the next smaller size. From gpt.rs: `shatter_contig`, and the barriers after it.
 // The scans after a granule store, and the fill of the largest range that matched. From gpt.rs: `can_fuse`, `fuse_descriptors`, `fuse`.
 // A set of one L1 table. From gpt.rs: the second half of `set`.
+ghost use mathlib.Core.Path.{_≡_};
 ghost use mathlib.Core.List.{_++_};
-ghost use Prim.Native.Nat.{_+_, _*_, _≤_, _<_, _^_};
+ghost use Prim.Native.Nat.{ℕ, _+_, _*_, _≤_, _<_, _^_};
+ghost use lib.ListN.{length};
 ghost use Rattle.gpi.specs.Gpi.{num};
 ghost use Rattle.gpi.specs.Size.{bytesOf};
+ghost use Rattle.theory.specs.declared.Fused.the-variants.{Nowhere, Level};
 ghost use Rattle.theory.specs.Normal.{span as spanOf, at as wordAt, base as baseOf};
-ghost use Rattle.theory.specs.Set.{barriers as barriersOf, shatter, scan, climb, nowhere, fused};
+ghost use Rattle.theory.specs.Set.{barriers as barriersOf, shatter, scan, climb, fused};
 ghost use Rattle.l1.specs.Arm.{arm, levelOf};
-ghost use Rattle.stores.specs.Done.{Done, Room, Placed, fresh};
-ghost use Rattle.set_table.specs.Cuts.{Cuts};
-ghost use mathlib.Core.Path.{_≡_};
-ghost use lib.ListN.{length};
-ghost use Rattle.set_table.specs.Scanned.{seen, fusedOf};
-ghost use Rattle.set_table.specs.Table.{answerOf, Granted, Made, setTableOf};
+ghost use Rattle.stores.specs.Done.{Done, Room, fresh};
+ghost use Rattle.set_table.specs.Inner.{Placed, Cuts, scanned, grantEvents};
+ghost use Rattle.set_table.specs.Table.{Made, targetOf, answerOf, happens, answers};
 use gpi::Gpi;
 use gpi::Size;
 use gpi::SizeCode;
 use l1::L1Entry;
 use l1::Match;
-use stores::Job;
+use pa::PA;
 use stores::Tally;
+use theory::Fused;
+use theory::Scan;
+
+// What is to be set in a table: where the table stands in its arena, the word and the granule, the words of 2 MB, the GPI, the address as
+// given, and a granule's bytes.
+pub struct SetAt {
+    pub offset: usize,
+    pub index: usize,
+    pub granule: u64,
+    pub unit: usize,
+    pub gpi: Gpi,
+    pub address: PA,
+    pub bytes: u64,
+}
 
 // How a range around an index is cut at the part that holds it: the fill before, and the fill after.
 struct Cut {
@@ -52,13 +66,14 @@ pub fn shatter_contig(
     table: &mut [u64],
     log: &mut [u64],
     t: Tally,
-    q: Job,
+    q: SetAt,
     size: Size,
     g: Gpi,
 ) -> Tally
     requires { ⌜ Placed (now table) (q .index) (q .unit) ⌝ }
     requires { ⌜ Room (now table) (now log) (q .offset) t (1 + 2 * levelOf size) (spanOf (q .unit) (levelOf size)) ⌝ }
-    ensures { λ r. ⌜ Done (q .offset) (shatter arm (q .unit) (num g) (q .index) (levelOf size)) (now (table .entry)) (now (table .exit)) (now (log .entry)) (now (log .exit)) t r ⌝ }
+    ensures { λ r. ⌜ Done (q .offset) (shatter arm (q .unit) (num g) (q .index) (levelOf size))
+        (now (table .entry)) (now (table .exit)) (now (log .entry)) (now (log .exit)) t r ⌝ }
 {
     let offset = q.offset;
     let index = q.index;
@@ -82,10 +97,11 @@ pub fn shatter_contig(
 }
 
 // A contiguous entry broken up, with its barriers.
-pub fn break_up(table: &mut [u64], log: &mut [u64], q: Job, size: Size, g: Gpi) -> Tally
+pub fn break_up(table: &mut [u64], log: &mut [u64], q: SetAt, size: Size, g: Gpi) -> Tally
     requires { ⌜ Placed (now table) (q .index) (q .unit) ⌝ }
     requires { ⌜ Room (now table) (now log) (q .offset) fresh 8 (spanOf (q .unit) 2) ⌝ }
-    ensures { λ r. ⌜ Done (q .offset) (shatter arm (q .unit) (num g) (q .index) (levelOf size) ++ barriersOf (q .address .0) (bytesOf size)) (now (table .entry)) (now (table .exit)) (now (log .entry)) (now (log .exit)) fresh r ⌝ }
+    ensures { λ r. ⌜ Done (q .offset) (shatter arm (q .unit) (num g) (q .index) (levelOf size) ++ barriersOf (q .address .0) (bytesOf size))
+        (now (table .entry)) (now (table .exit)) (now (log .entry)) (now (log .exit)) fresh r ⌝ }
 {
     let t = Tally {
         records: 0,
@@ -96,18 +112,11 @@ pub fn break_up(table: &mut [u64], log: &mut [u64], q: Job, size: Size, g: Gpi) 
     stores::barriers(log, a, address, gpi::size_bytes(size))
 }
 
-// What the scans came to: no range, the largest that matched, or an invalid word.
-pub enum Matched {
-    Nowhere,
-    At(Size),
-    Refused,
-}
-
 // Whether the aligned range of some words around the index is all of one GPI: its words from the lowest on, up to the first that isn't.
-pub fn can_fuse(table: &[u64], index: usize, words: usize, g: Gpi) -> Match
+pub fn can_fuse(table: &[u64], index: usize, words: usize, g: Gpi) -> Scan
     requires { ⌜ 0 < words ⌝ }
     requires { ⌜ baseOf words index + words ≤ length (now table) ⌝ }
-    ensures { λ r. ⌜ r ≡ seen (scan arm (wordAt (now (table .entry))) (num g) (baseOf words index) words) ⌝ }
+    ensures { λ r. ⌜ r ≡ scan arm (wordAt (now (table .entry))) (num g) (baseOf words index) words ⌝ }
 {
     let mut k = index / words * words;
     let end = k + words;
@@ -117,52 +126,73 @@ pub fn can_fuse(table: &[u64], index: usize, words: usize, g: Gpi) -> Match
                 k += 1;
             }
             Match::Other => {
-                return Match::Other;
+                return Scan::Differs;
             }
             Match::Bad => {
-                return Match::Bad;
+                return Scan::Invalid(k);
             }
         }
     }
-    Match::Same
+    Scan::All
 }
 
-// The largest range around the index that is all of one GPI: each size only if the one below matched.
-pub fn fuse_descriptors(table: &[u64], index: usize, unit: usize, g: Gpi) -> Matched
+// The largest range around the index that is all of one GPI: each level only if the one below matched.
+pub fn fuse_descriptors(table: &[u64], index: usize, unit: usize, g: Gpi) -> Fused
     requires { ⌜ Placed (now table) index unit ⌝ }
-    ensures { λ r. ⌜ fusedOf r ≡ climb arm unit (wordAt (now (table .entry))) (num g) index 0 nowhere 3 ⌝ }
+    ensures { λ r. ⌜ r ≡ climb arm unit (wordAt (now (table .entry))) (num g) index 0 Nowhere 3 ⌝ }
 {
-    match can_fuse(table, index, l1::span(unit, Size::MB2), g) {
-        Match::Bad => Matched::Refused,
-        Match::Other => Matched::Nowhere,
-        Match::Same => match can_fuse(table, index, l1::span(unit, Size::MB32), g) {
-            Match::Bad => Matched::Refused,
-            Match::Other => Matched::At(Size::MB2),
-            Match::Same => match can_fuse(table, index, l1::span(unit, Size::MB512), g) {
-                Match::Bad => Matched::Refused,
-                Match::Other => Matched::At(Size::MB32),
-                Match::Same => Matched::At(Size::MB512),
-            },
-        },
+    let mut level = 0;
+    let mut words = unit;
+    let mut best = Fused::Nowhere;
+    while level < 3 {
+        match can_fuse(table, index, words, g) {
+            Scan::All => {
+                best = Fused::Level(level);
+                words = 16 * words;
+                level += 1;
+            }
+            Scan::Differs => {
+                return best;
+            }
+            Scan::Invalid(k) => {
+                return Fused::Refused(k);
+            }
+        }
+    }
+    best
+}
+
+// The size of a level.
+fn size_at(level: usize) -> Size
+    requires { ⌜ level < 3 ⌝ }
+    ensures { λ r. ⌜ levelOf r ≡ level ⌝ }
+{
+    match level {
+        0 => Size::MB2,
+        1 => Size::MB32,
+        _ => Size::MB512,
     }
 }
 
 // The range that matched, filled with its contiguous word.
-pub fn fuse(table: &mut [u64], log: &mut [u64], t: Tally, q: Job, m: Matched) -> Tally
+pub fn fuse(table: &mut [u64], log: &mut [u64], t: Tally, q: SetAt, m: Fused) -> Tally
     requires { ⌜ Placed (now table) (q .index) (q .unit) ⌝ }
+    requires { ⌜ ((l : ℕ) → m ≡ Level l → l < 3) ⌝ }
     requires { ⌜ Room (now table) (now log) (q .offset) t 1 (spanOf (q .unit) 2) ⌝ }
-    ensures { λ r. ⌜ Done (q .offset) (fused arm (q .unit) (num (q .gpi)) (q .index) (fusedOf m)) (now (table .entry)) (now (table .exit)) (now (log .entry)) (now (log .exit)) t r ⌝ }
+    ensures { λ r. ⌜ Done (q .offset) (fused arm (q .unit) (num (q .gpi)) (q .index) m)
+        (now (table .entry)) (now (table .exit)) (now (log .entry)) (now (log .exit)) t r ⌝ }
 {
     match m {
-        Matched::Nowhere => t,
-        Matched::At(size) => {
+        Fused::Nowhere => t,
+        Fused::Level(level) => {
             let index = q.index;
             let g = q.gpi;
+            let size = size_at(level);
             let words = l1::span(q.unit, size);
             let word = l1::contig(size, g);
             stores::fill_descs(table, log, t, q.offset, index / words * words, words, word)
         }
-        Matched::Refused => t,
+        Fused::Refused(_) => t,
     }
 }
 
@@ -172,40 +202,43 @@ pub enum Answer {
     Invalid,
 }
 
-fn answer_of(m: Matched, t: Tally) -> Answer
-    ensures { λ r. ⌜ r ≡ answerOf (fusedOf m) t ⌝ }
+fn answer_of(m: Fused, t: Tally) -> Answer
+    ensures { λ r. ⌜ r ≡ answerOf m t ⌝ }
 {
     match m {
-        Matched::Nowhere => Answer::Done(t),
-        Matched::At(_) => Answer::Done(t),
-        Matched::Refused => Answer::Stopped(t),
+        Fused::Nowhere => Answer::Done(t),
+        Fused::Level(_) => Answer::Done(t),
+        Fused::Refused(_) => Answer::Stopped(t),
     }
 }
 
 // The set from its granule store on, in a word of granules.
-fn set_granule(table: &mut [u64], log: &mut [u64], t: Tally, q: Job) -> Answer
+fn set_granule(table: &mut [u64], log: &mut [u64], t: Tally, q: SetAt) -> Answer
     requires { ⌜ Placed (now table) (q .index) (q .unit) ⌝ }
     requires { ⌜ q .granule < 16 ⌝ }
     requires { ⌜ Room (now table) (now log) (q .offset) t 5 (1 + spanOf (q .unit) 2) ⌝ }
-    ensures { λ r. ⌜ Granted q (now (table .entry)) (now (table .exit)) (now (log .entry)) (now (log .exit)) t r ⌝ }
+    ensures { λ r. ⌜ Made (q .offset) (grantEvents arm (q .unit) (now (table .entry)) (targetOf q))
+        (answerOf (scanned arm (q .unit) (now (table .entry)) (targetOf q)))
+        (now (table .entry)) (now (table .exit)) (now (log .entry)) (now (log .exit)) t r ⌝ }
 {
     let i = q.index;
     let g = q.gpi;
     let address = q.address;
     let w = granules::set_gpi(table[i], q.granule, g);
     let a = stores::store_granule(table, log, t, q.offset, i, q.granule, w);
-    let b = stores::barriers(log, a, address, q.grain);
+    let b = stores::barriers(log, a, address, q.bytes);
     let m = fuse_descriptors(&table[..], i, q.unit, g);
     let c = fuse(table, log, b, q, m);
     answer_of(m, c)
 }
 
 // A set of one table.
-pub fn set_table(table: &mut [u64], log: &mut [u64], q: Job) -> Answer
+pub fn set_table(table: &mut [u64], log: &mut [u64], q: SetAt) -> Answer
     requires { ⌜ Placed (now table) (q .index) (q .unit) ⌝ }
     requires { ⌜ q .granule < 16 ⌝ }
     requires { ⌜ Room (now table) (now log) (q .offset) fresh 13 (2 * spanOf (q .unit) 2 + 1) ⌝ }
-    ensures { λ r. ⌜ Made (setTableOf q (now (table .entry)) (now (log .entry))) r (now (table .exit)) (now (log .exit)) ⌝ }
+    ensures { λ r. ⌜ Made (q .offset) (happens q (now (table .entry))) (answers q (now (table .entry)))
+        (now (table .entry)) (now (table .exit)) (now (log .entry)) (now (log .exit)) fresh r ⌝ }
 {
     let i = q.index;
     match l1::l1_entry(table[i]) {

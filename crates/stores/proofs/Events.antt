@@ -1,4 +1,5 @@
--- Laws of `Done` and `Room`: no event, one event, events after events; what stays of the lengths, and the room that is left.
+-- Laws of `Done` and `Room` of the crate `stores`: no event, one event, events after events; what stays of the lengths, and the room that
+-- is left.
 -- Assumes nothing.
 use mathlib.Core.Path.{_≡_, refl, ap, _∙_}
 use mathlib.Core.List.{List, [], _∷_, _++_, append-nil}
@@ -24,7 +25,8 @@ none o t l a = record { inside = tt; table = refl; log = refl; records = omega a
 
 -- what one event stored and logged
 pub one : (o : ℕ) (e : Event) (t t′ l l′ : List ℕ) (a b : Tally) → Inside (length t) (storesOf e) → t′ ≡ apply t (storesOf e)
-    → l′ ≡ sets l (4 * a .records) (recordOf o e) → b .records ≡ a .records + 1 → b .stores ≡ a .stores + countOf e → Done o (e ∷ []) t t′ l l′ a b
+    → l′ ≡ sets l (4 * a .records) (recordOf o e) → b .records ≡ a .records + 1 → b .stores ≡ a .stores + countOf e
+    → Done o (e ∷ []) t t′ l l′ a b
 unfolding stores logged records count
 one o e t t′ l l′ a b inn p q r s =
     record {
@@ -41,7 +43,9 @@ pub after : {o : ℕ} {es fs : List Event} {t t′ t″ l l′ l″ : List ℕ} 
     → Done o es t t′ l l′ a b → Done o fs t′ t″ l′ l″ b d → Done o (es ++ fs) t t″ l l″ a d
 after {o} {es} {fs} {t} {t′} {t″} {l} {l′} {l″} {a} {b} {d} p q =
     record {
-      inside = rw (stores-append es fs) (each-append _ (stores es) (stores fs) (p .inside) (rw (ap length (p .table) ∙ length-apply t (stores es)) at (q .inside)));
+      inside =
+          rw (stores-append es fs)
+          (each-append _ (stores es) (stores fs) (p .inside) (rw (ap length (p .table) ∙ length-apply t (stores es)) at (q .inside)));
       table = rw (stores-append es fs, apply-append, ← p .table) (q .table);
       log = rw (logged-append, ← p .log, ← p .records) (q .log);
       records = rw length-append (omega (arith, p .records, q .records));
@@ -50,7 +54,8 @@ after {o} {es} {fs} {t} {t′} {t″} {l} {l′} {l″} {a} {b} {d} p q =
 
 -- ---- a fill
 
-pub fill-done : (o at k w : ℕ) (t t′ l l′ : List ℕ) (a b : Tally) → at + k ≤ length t → 0 < k → (j : ℕ) → j ≤ k → k ≤ j → t′ ≡ apply t (fill at j w)
+pub fill-done : (o at k w : ℕ) (t t′ l l′ : List ℕ) (a b : Tally) → at + k ≤ length t → 0 < k
+    → (j : ℕ) → j ≤ k → k ≤ j → t′ ≡ apply t (fill at j w)
     → l′ ≡ sets l (4 * a .records) (1 ∷ (o + at) ∷ k ∷ w ∷ []) → b .records ≡ a .records + 1 → b .stores ≡ a .stores + k
     → Done o (fillEvent at k w) t t′ l l′ a b
 unfolding fillEvent

@@ -1,2 +1,1 @@
 pub mod Events
-pub mod Places

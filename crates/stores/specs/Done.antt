@@ -1,11 +1,10 @@
--- What a routine that stores promises: its events happened, and nothing else; and what it asks. Document 01: "each one's contract states its
--- words and its own record together".
+-- What a routine of the crate `stores` promises: its events happened, and nothing else; and what it asks. Document 01: "each one's contract
+-- states its words and its own record together".
 -- Assumes nothing: these are definitions.
 use mathlib.Core.Path.{_≡_}
 use mathlib.Core.List.{List}
 use Prim.Native.Nat.{ℕ, _+_, _*_, _≤_, _<_, _^_}
 use lib.ListN.{length}
-use Rattle.theory.specs.Normal.{span, base}
 use Rattle.theory.specs.Stores.{apply, Inside}
 use Rattle.theory.specs.Events.{Event, stores, count, logged}
 use Rattle.stores.specs.declared.Tally.{Tally}
@@ -26,13 +25,3 @@ pub record Room (t l : List ℕ) (o : ℕ) (a : Tally) (k n : ℕ) : Type 0 wher
 
 abbrev pub fresh : Tally
 fresh = record { records = 0; stores = 0 }
-
--- ---- what a job asks of its table
-
--- the index's aligned 512 MB range lies in the table, and there are 2, 8 or 32 words to 2 MB
-pub record Placed (t : List ℕ) (i u : ℕ) : Type 0 where
-  pub least : 1 ≤ u
-  pub most : u ≤ 32
-  pub index : i < length t
-  pub inside : base (span u 2) i + span u 2 ≤ length t
-  pub small : length t < 2 ^ 62

@@ -8,25 +8,12 @@ ghost use lib.Seq.{sets};
 ghost use Rattle.theory.specs.Events.{granule as granuleStored};
 ghost use Rattle.theory.specs.Set.{fillEvent, barriers as barriersOf};
 ghost use Rattle.stores.specs.Done.{Done, Room};
-use gpi::Gpi;
 use pa::PA;
 
 // Records and stores so far.
 pub struct Tally {
     pub records: usize,
     pub stores: usize,
-}
-
-// What is to be set in a table: where the table stands in its arena, the word and the granule, the words of 2 MB, the GPI, the address as
-// given, and a granule's bytes.
-pub struct Job {
-    pub offset: usize,
-    pub index: usize,
-    pub granule: u64,
-    pub unit: usize,
-    pub gpi: Gpi,
-    pub address: PA,
-    pub grain: u64,
 }
 
 // Record n of the log.
@@ -53,7 +40,8 @@ pub fn fill_descs(
 ) -> Tally
     requires { ⌜ at + count ≤ length (now table) ⌝ }
     requires { ⌜ Room (now table) (now log) offset t 1 count ⌝ }
-    ensures { λ r. ⌜ Done offset (fillEvent at count word) (now (table .entry)) (now (table .exit)) (now (log .entry)) (now (log .exit)) t r ⌝ }
+    ensures { λ r. ⌜ Done offset (fillEvent at count word)
+        (now (table .entry)) (now (table .exit)) (now (log .entry)) (now (log .exit)) t r ⌝ }
 {
     if count == 0 {
         return t;
@@ -83,7 +71,8 @@ pub fn store_granule(
 ) -> Tally
     requires { ⌜ at < length (now table) ⌝ }
     requires { ⌜ Room (now table) (now log) offset t 1 1 ⌝ }
-    ensures { λ r. ⌜ Done offset (granuleStored at granule word ∷ []) (now (table .entry)) (now (table .exit)) (now (log .entry)) (now (log .exit)) t r ⌝ }
+    ensures { λ r. ⌜ Done offset (granuleStored at granule word ∷ [])
+        (now (table .entry)) (now (table .exit)) (now (log .entry)) (now (log .exit)) t r ⌝ }
 {
     table[at] = word;
     let n = t.records;
@@ -97,7 +86,8 @@ pub fn store_granule(
 // DSB OSHST, TLBI of the bytes at the address, DSB OSH.
 pub fn barriers(log: &mut [u64], t: Tally, address: PA, bytes: u64) -> Tally
     requires { ⌜ 4 * (t .records + 3) ≤ length (now log) ⌝ }
-    ensures { λ r. ⌜ ((o : ℕ) (table : List ℕ) → Done o (barriersOf (address .0) bytes) table table (now (log .entry)) (now (log .exit)) t r) ⌝ }
+    ensures { λ r. ⌜ ((o : ℕ) (table : List ℕ)
+        → Done o (barriersOf (address .0) bytes) table table (now (log .entry)) (now (log .exit)) t r) ⌝ }
 {
     let n = t.records;
     log_record(log, n, 2, 0, 0, 0);

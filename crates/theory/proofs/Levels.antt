@@ -1,4 +1,5 @@
--- The levels of an index: the word of the first levels, by whether the widest of them is alike; and which level a normal word has.
+-- The levels of an index: the word of the first levels, by whether the widest of them is alike; and which level a normal word has. Of the
+-- crate `theory`.
 -- Assumes nothing.
 use mathlib.Core.Path.{_≡_, refl, sym, ap, _∙_}
 use mathlib.Core.Bool.{Bool, true, false, cond}
@@ -24,7 +25,8 @@ module _ (F : Format) (L : Laws F) (u : ℕ) (u-pos : 0 < u) (r : ℕ → ℕ) w
   in-here l i = in-self (span u l) i (span-pos u l u-pos)
 
   -- of one GPI: the word of the first levels is that contiguous word
-  pub up-true : (l i k : ℕ) → alike F r (span u l) i (gpi F (r i)) ≡ true → In (span u l) i k → capped F u r (suc l) k ≡ F .contig l (gpi F (r i))
+  pub up-true : (l i k : ℕ) → alike F r (span u l) i (gpi F (r i)) ≡ true → In (span u l) i k
+      → capped F u r (suc l) k ≡ F .contig l (gpi F (r i))
   unfolding capped widest
   up-true l i k e h =
       let v : F .valid (r k) ≡ true = reads-valid F (r k) (gpi F (r i)) (alike-reads F r (span u l) i (gpi F (r i)) e k h) in
@@ -37,7 +39,8 @@ module _ (F : Format) (L : Laws F) (u : ℕ) (u-pos : 0 < u) (r : ℕ → ℕ) w
   up-false l i k e h = go (alike F r (span u l) k (gpi F (r k))) refl
     where
       go : (b : Bool) → alike F r (span u l) k (gpi F (r k)) ≡ b
-          → cond (F .valid (r k)) (cond (alike F r (span u l) k (gpi F (r k))) (F .contig l (gpi F (r k))) (widest F u r k (gpi F (r k)) l)) (r k)
+          → cond (F .valid (r k))
+          (cond (alike F r (span u l) k (gpi F (r k))) (F .contig l (gpi F (r k))) (widest F u r k (gpi F (r k)) l)) (r k)
           ≡ cond (F .valid (r k)) (widest F u r k (gpi F (r k)) l) (r k)
       go false q = rw q refl
       go true q =
@@ -84,23 +87,30 @@ module _ (F : Format) (L : Laws F) (u : ℕ) (u-pos : 0 < u) (r : ℕ → ℕ) w
 
   -- ---- THE THEOREMS
 
-  largest : (n : ℕ) → n ≤ 3 → (i l : ℕ) → F .valid (r i) ≡ true → l < n → alike F r (span u l) i (gpi F (r i)) ≡ true → suc l ≤ F .size (capped F u r n i)
+  largest : (n : ℕ) → n ≤ 3 → (i l : ℕ) → F .valid (r i) ≡ true → l < n → alike F r (span u l) i (gpi F (r i)) ≡ true
+      → suc l ≤ F .size (capped F u r n i)
   largest zero b i l ok l< a = absurd (omega arith)
   largest (suc n) b i l ok l< a = go (alike F r (span u n) i (gpi F (r i))) refl (λ c. largest n (omega arith) i l ok c a)
     where
-      go : (c : Bool) → alike F r (span u n) i (gpi F (r i)) ≡ c → (l < n → suc l ≤ F .size (capped F u r n i)) → suc l ≤ F .size (capped F u r (suc n) i)
+      go : (c : Bool) → alike F r (span u n) i (gpi F (r i)) ≡ c → (l < n → suc l ≤ F .size (capped F u r n i))
+          → suc l ≤ F .size (capped F u r (suc n) i)
       go true p ih =
           rw (up-true n i i p (in-here n i), L .size-contig n (gpi F (r i)) (omega arith) (L .known-low (r i) ok)) (omega arith)
       go false p ih = rw (up-false n i i p (in-here n i)) (below (ℕ-discrete l n))
         where
           below : Dec (l ≡ n) → suc l ≤ F .size (capped F u r n i)
-          below (yes q) = let z : alike F r (span u l) i (gpi F (r i)) ≡ false = rw q p in let z : _≡_ {A = ℕ} 0 1 = cc in absurd (omega arith)
+          below (yes q) =
+              let z : alike F r (span u l) i (gpi F (r i)) ≡ false = rw q p in
+              let z : _≡_ {A = ℕ} 0 1 = cc in
+              absurd (omega arith)
           below (no q) = ih (omega arith)
 
-  -- A valid word's normal word takes the largest size that fits. It fits: the aligned range of its level is valid throughout and of the word's GPI.
+  -- A valid word's normal word takes the largest size that fits. It fits: the aligned range of its level is valid throughout and of the
+  -- word's GPI.
   pub normal-fits : (i l : ℕ) → F .valid (r i) ≡ true → F .size (normalWord F u r i) ≡ suc l → alike F r (span u l) i (gpi F (r i)) ≡ true
   normal-fits i l ok e = (capped-range 3 (omega arith) i l ok e) .1
 
   -- And no larger one does: where the aligned range of a level is so, the normal word is contiguous, and of that level at least.
-  pub normal-largest : (i l : ℕ) → F .valid (r i) ≡ true → l < 3 → alike F r (span u l) i (gpi F (r i)) ≡ true → suc l ≤ F .size (normalWord F u r i)
+  pub normal-largest : (i l : ℕ) → F .valid (r i) ≡ true → l < 3 → alike F r (span u l) i (gpi F (r i)) ≡ true
+      → suc l ≤ F .size (normalWord F u r i)
   normal-largest i l ok l< a = largest 3 (omega arith) i l ok l< a

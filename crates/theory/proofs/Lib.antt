@@ -5,7 +5,7 @@
 --   Cut     agreement; what a set keeps; a set cut after k stores: what it reads, and what mends make of it
 --   Log     the log, read back from its words, tells the stores of the set
 --   Whole   normal tables are whole, whole tables agree, finished sets keep it and finished mends make it, stopped ones need not
---   Moves   the history theorem: sets, cut sets and mends of several tables in one arena, one after the other
+--   Arena   a table that stands in an arena: laid in its place, and stores made there
 -- The code's proofs cite Stores and Events (lists of stores and events compose) and Onward (mend's loop). The rest serves these.
 -- Assumes nothing.
 pub mod Lists
@@ -22,5 +22,3 @@ pub mod Set
 pub mod Cut
 pub mod Log
 pub mod Whole
-pub mod Parts
-pub mod Moves

@@ -1,4 +1,4 @@
--- Mend: what it keeps, what it writes and counts, and where mends lead.
+-- Mend: what it keeps, what it writes and counts, and where mends lead. Of the crate `theory`.
 -- Assumes nothing.
 use mathlib.Core.Path.{_≡_, refl, sym, ap, _∙_}
 use mathlib.Core.Bool.{Bool, true, false, cond}
@@ -51,10 +51,16 @@ module _ (r h : ℕ → ℕ) where
   each-repair P a zero f = tt
   each-repair P a (suc n) f = go (eqb (r a) (h a)) refl (each-repair P (suc a) n (λ j lo hi. f j (omega arith) (omega arith)))
     where
-      go : (b : Bool) → eqb (r a) (h a) ≡ b → Each P (repairs r h (suc a) n) → Each P (cond b (repairs r h (suc a) n) (repair h a ∷ repairs r h (suc a) n))
+      go : (b : Bool) → eqb (r a) (h a) ≡ b → Each P (repairs r h (suc a) n)
+          → Each P (cond b (repairs r h (suc a) n) (repair h a ∷ repairs r h (suc a) n))
       go true p e = e
-      go false p e =
-          (f a (omega arith) (omega arith) (λ q. let z : true ≡ false = sym (eq-eqb (r a) (h a) q) ∙ p in let z : _≡_ {A = ℕ} 0 1 = cc in omega arith), e)
+      go false p e = (
+        f a (omega arith) (omega arith) (λ q.
+            let z : true ≡ false = sym (eq-eqb (r a) (h a) q) ∙ p in
+            let z : _≡_ {A = ℕ} 0 1 = cc in
+            omega arith),
+        e,
+      )
 
   -- the last word's
   pub repairs-suc : (a n : ℕ) → repairs r h a (suc n) ≡ repairs r h a n ++ cond (eqb (r (a + n)) (h (a + n))) [] (repair h (a + n) ∷ [])
@@ -62,9 +68,12 @@ module _ (r h : ℕ → ℕ) where
   repairs-suc a zero = rw add-zero refl
   repairs-suc a (suc n) = go (eqb (r a) (h a)) (rw suc-add at (repairs-suc (suc a) n))
     where
-      go : (b : Bool) → repairs r h (suc a) (suc n) ≡ repairs r h (suc a) n ++ cond (eqb (r (suc (a + n))) (h (suc (a + n)))) [] (repair h (suc (a + n)) ∷ [])
+      go : (b : Bool)
+          → repairs r h (suc a) (suc n)
+          ≡ repairs r h (suc a) n ++ cond (eqb (r (suc (a + n))) (h (suc (a + n)))) [] (repair h (suc (a + n)) ∷ [])
           → cond b (repairs r h (suc a) (suc n)) (repair h a ∷ repairs r h (suc a) (suc n))
-          ≡ cond b (repairs r h (suc a) n) (repair h a ∷ repairs r h (suc a) n) ++ cond (eqb (r (a + suc n)) (h (a + suc n))) [] (repair h (a + suc n) ∷ [])
+          ≡ cond b (repairs r h (suc a) n) (repair h a ∷ repairs r h (suc a) n)
+          ++ cond (eqb (r (a + suc n)) (h (a + suc n))) [] (repair h (a + suc n) ∷ [])
       go true e = rw add-suc e
       go false e = rw add-suc (ap (λ (l : List Store). repair h a ∷ l) e)
 
@@ -96,14 +105,15 @@ module _ (t : List ℕ) (h : ℕ → ℕ) where
       go : (c : Bool) → eqb (at t (a + n)) (h (a + n)) ≡ c → Dec (i ≡ a + n) → (i < a + n → at (apply t (repairs (at t) h a n)) i ≡ h i)
           → at (apply (apply t (repairs (at t) h a n)) (cond c [] (repair h (a + n) ∷ []))) i ≡ h i
       go true p (yes q) ih = repairs-out a n i (λ x y. omega arith) ∙ rw q (eqb-true (at t (a + n)) (h (a + n)) p)
-      go false p (yes q) ih = rw q (getD-set-same (apply t (repairs (at t) h a n)) (a + n) (h (a + n)) 0 (omega (arith, length-apply t (repairs (at t) h a n))))
+      go false p (yes q) ih =
+          rw q (getD-set-same (apply t (repairs (at t) h a n)) (a + n) (h (a + n)) 0 (omega (arith, length-apply t (repairs (at t) h a n))))
       go true p (no q) ih = ih (omega arith)
       go false p (no q) ih = getD-set-other (apply t (repairs (at t) h a n)) (a + n) i (h (a + n)) 0 q ∙ ih (omega arith)
 
 -- ---- THE THEOREMS
 
--- What a mend writes and reports, said of the tables. It writes upward and stops: below some index every word is normal, from there on every
--- word is as it was. It reports how many words below that index were not normal.
+-- What a mend writes and reports, said of the tables. It writes upward and stops: below some index every word is normal, from there on
+-- every word is as it was. It reports how many words below that index were not normal.
 pub record Upward (F : Format) (u k : ℕ) (t : List ℕ) : Type 0 where
   pub stop : ℕ
   pub within : stop ≤ length t
@@ -115,13 +125,16 @@ module _ (F : Format) (u k : ℕ) (t : List ℕ) where
   -- The count that a mend reports is the least of the limit and the number of words that differ.
   pub mendCount-is : mendCount F u k t ≡ min k (differing (at t) (normalWord F u (at t)) 0 (length t))
   unfolding mendCount mending
-  mendCount-is = length-take k (repairs (at t) (normalWord F u (at t)) 0 (length t)) ∙ ap (min k) (length-repairs (at t) (normalWord F u (at t)) 0 (length t))
+  mendCount-is =
+      length-take k (repairs (at t) (normalWord F u (at t)) 0 (length t))
+      ∙ ap (min k) (length-repairs (at t) (normalWord F u (at t)) 0 (length t))
 
   pub mend-upward : Upward F u k t
   unfolding mend mendCount mending
   mend-upward = go (repairs-cut (at t) (normalWord F u (at t)) k 0 (length t))
     where
-      go : ((m : ℕ) × (m ≤ length t) × (take k (repairs (at t) (normalWord F u (at t)) 0 (length t)) ≡ repairs (at t) (normalWord F u (at t)) 0 m)) → Upward F u k t
+      go : ((m : ℕ) × (m ≤ length t)
+          × (take k (repairs (at t) (normalWord F u (at t)) 0 (length t)) ≡ repairs (at t) (normalWord F u (at t)) 0 m)) → Upward F u k t
       go (m, b, e) =
           record {
             stop = m;
@@ -165,7 +178,11 @@ module _ (F : Format) (L : Laws F) (u : ℕ) (u-pos : 0 < u) where
       word : (i : ℕ) → i < length t → at (mend F u k t) i ≡ normalWord F u (at t) i
       word i h =
           rw (take-all k (repairs (at t) (normalWord F u (at t)) 0 (length t))
-          (omega (arith, length-repairs (at t) (normalWord F u (at t)) 0 (length t), differing-few (at t) (normalWord F u (at t)) 0 (length t))))
+          (omega (
+            arith,
+            length-repairs (at t) (normalWord F u (at t)) 0 (length t),
+            differing-few (at t) (normalWord F u (at t)) 0 (length t),
+          )))
           (repairs-in t (normalWord F u (at t)) 0 (length t) i (omega arith) (omega arith) h)
 
   -- Mends of any limits, one after the other, and then one that no limit stops: the normal table of the table at the start.

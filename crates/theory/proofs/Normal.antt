@@ -1,4 +1,5 @@
--- The normal table: a function of what the table reads, that reads the same, is its own normal table, and is the one such table.
+-- The normal table: a function of what the table reads, that reads the same, is its own normal table, and is the one such table. Of the
+-- crate `theory`.
 -- Assumes nothing.
 use mathlib.Core.Path.{_≡_, refl, sym, ap, _∙_}
 use mathlib.Core.Bool.{Bool, true, false, cond}
@@ -12,12 +13,13 @@ use lib.ListN.{length, length-map, List·getD-map}
 use lib.Seq.{ext-getD}
 use Rattle.theory.specs.Format.{Format, Laws, gpi, reads}
 use Rattle.theory.specs.Normal.{at, span, base, In, alike, widest, capped, normalWord, normal}
-use Rattle.theory.proofs.Lists.{and-left, and-right, every-at, every-of, every-ext, length-build, build-ext, at-build, map-at, map-length}
+use Rattle.theory.proofs.Lists.{and-left, and-right, every-at, every-of, every-ext, length-build, build-ext, at-build, map-at}
+use Rattle.theory.proofs.Lists.{map-length}
 use Rattle.theory.proofs.Ranges.{span-pos, in-of, in-self}
 
 module _ (F : Format) where
-  -- The normal word in one piece, as document 01 has it: an invalid word is kept; a valid one takes the largest of 512, 32, 2 MB whose aligned
-  -- range is valid throughout and of its GPI, as that contiguous word; else its sixteen granules.
+  -- The normal word in one piece, as document 01 has it: an invalid word is kept; a valid one takes the largest of 512, 32, 2 MB whose
+  -- aligned range is valid throughout and of its GPI, as that contiguous word; else its sixteen granules.
   pub normal-says : (u : ℕ) (r : ℕ → ℕ) (i : ℕ)
       → let g : ℕ = gpi F (r i) in
       normalWord F u r i
@@ -136,7 +138,8 @@ module _ (F : Format) (L : Laws F) where
   normal-normal u h t = same-normal u (normal F u t) t (flat-normal u h t)
 
   -- There is no other: a table whose every word is normal, and which reads as t does, is the normal table of t.
-  pub the-one : (u : ℕ) (s t : List ℕ) → map (F .flat) s ≡ map (F .flat) t → ((i : ℕ) → i < length s → at s i ≡ normalWord F u (at s) i) → s ≡ normal F u t
+  pub the-one : (u : ℕ) (s t : List ℕ) → map (F .flat) s ≡ map (F .flat) t → ((i : ℕ) → i < length s → at s i ≡ normalWord F u (at s) i)
+      → s ≡ normal F u t
   the-one u s t e h =
       ext-getD 0 s (normal F u s) (sym (length-normal u s)) (λ i b. h i b ∙ sym (at-normal u s i b))
       ∙ same-normal u s t e

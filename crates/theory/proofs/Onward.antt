@@ -1,4 +1,5 @@
--- The laws of mend's walk over stretches: how a routine's loop goes on, how routines compose, and that a walk over the whole table is a mend.
+-- The laws of mend's walk over stretches: how a routine's loop goes on, how routines compose, and that a walk over the whole table is a
+-- mend. Of the crate `theory`.
 -- Assumes nothing.
 use mathlib.Core.Path.{_≡_, refl, sym, ap, _∙_}
 use mathlib.Core.Bool.{Bool, true, false, _&&_, not, cond, and-true, and-false}
@@ -62,13 +63,15 @@ onward-ahead k h a (suc m) s j b =
     (getD-set-other ((onward k h a m s) .table) (a + m) j (h (a + m)) 0 (λ q. omega arith) ∙ ih) ih
 
 -- what f says of the words stays, where it says the same of the words walked to
-map-onward : (f : ℕ → ℕ) (k : ℕ) (h : ℕ → ℕ) (a m : ℕ) (s : Walk) → ((i : ℕ) → f (h i) ≡ f (at (s .table) i)) → map f ((onward k h a m s) .table) ≡ map f (s .table)
+map-onward : (f : ℕ → ℕ) (k : ℕ) (h : ℕ → ℕ) (a m : ℕ) (s : Walk) → ((i : ℕ) → f (h i) ≡ f (at (s .table) i))
+    → map f ((onward k h a m s) .table) ≡ map f (s .table)
 unfolding onward
 map-onward f k h a zero s e = refl
 map-onward f k h a (suc m) s e =
     let ih : map f ((onward k h a m s) .table) ≡ map f (s .table) = map-onward f k h a m s e in
     step-table k h (a + m) (onward k h a m s) (λ (l : List ℕ). map f l ≡ map f (s .table))
-    (map-set-same f ((onward k h a m s) .table) (a + m) (h (a + m)) 0 (e (a + m) ∙ sym (map-at f ((onward k h a m s) .table) (s .table) ih (a + m))) ∙ ih) ih
+    (map-set-same f ((onward k h a m s) .table) (a + m) (h (a + m)) 0
+    (e (a + m) ∙ sym (map-at f ((onward k h a m s) .table) (s .table) ih (a + m))) ∙ ih) ih
 
 -- ---- a turn of a routine's loop
 
@@ -84,7 +87,8 @@ module _ (k w i : ℕ) (t : List ℕ) (c : ℕ) where
   step-store lt ne = rw (add-one c, lt-ltb c k lt, ne-eqb (at t i) w ne) refl
 
 module _ (k : ℕ) (h : ℕ → ℕ) (a i : ℕ) (t₀ : List ℕ) (c₀ : ℕ) (t : List ℕ) (c : ℕ) (e : Goes k h a i t₀ c₀ t c) where
-  pub goes-on : (w : ℕ) → w ≡ h (a + i) → (t₂ : List ℕ) (c₂ : ℕ) → walked t₂ c₂ ≡ step k (λ _. w) (a + i) (walked t c) → Goes k h a (i + 1) t₀ c₀ t₂ c₂
+  pub goes-on : (w : ℕ) → w ≡ h (a + i) → (t₂ : List ℕ) (c₂ : ℕ) → walked t₂ c₂ ≡ step k (λ _. w) (a + i) (walked t c)
+      → Goes k h a (i + 1) t₀ c₀ t₂ c₂
   unfolding onward
   goes-on w q t₂ c₂ s = s ∙ rw (add-one i, ← e, q) refl
 
@@ -105,9 +109,11 @@ module _ (F : Format) (L : Laws F) (u : ℕ) (u-pos : 0 < u) where
   after k l a m n t₀ c₀ t₁ c₁ t₂ c₂ b p q =
       let h : ℕ → ℕ = capped F u (at t₀) (suc l) in
       let e : map (F .flat) t₁ ≡ map (F .flat) t₀
-      = ap (λ (s : Walk). map (F .flat) (s .table)) p ∙ map-onward (F .flat) k h a m (walked t₀ c₀) (flat-capped F L u u-pos (at t₀) (suc l) b) in
+      = ap (λ (s : Walk). map (F .flat) (s .table)) p
+      ∙ map-onward (F .flat) k h a m (walked t₀ c₀) (flat-capped F L u u-pos (at t₀) (suc l) b) in
       q
-      ∙ onward-ext k (capped F u (at t₁) (suc l)) h (a + m) n (λ i lo hi. same-capped F L u (at t₁) (at t₀) (map-at (F .flat) t₁ t₀ e) (suc l) i) (walked t₁ c₁)
+      ∙ onward-ext k (capped F u (at t₁) (suc l)) h (a + m) n
+      (λ i lo hi. same-capped F L u (at t₁) (at t₀) (map-at (F .flat) t₁ t₀ e) (suc l) i) (walked t₁ c₁)
       ∙ ap (onward k h (a + m) n) p
       ∙ onward-add k h a m n (walked t₀ c₀)
 
@@ -123,7 +129,8 @@ module _ (F : Format) (L : Laws F) (u : ℕ) (u-pos : 0 < u) where
     unfolding single alike
     single-alike = rw here refl
 
-    pub words-single : single F r a (span u l) ≡ true → (i : ℕ) → a ≤ i → i < a + span u l → capped F u r (suc l) i ≡ F .contig l (gpi F (r a))
+    pub words-single : single F r a (span u l) ≡ true → (i : ℕ) → a ≤ i → i < a + span u l
+        → capped F u r (suc l) i ≡ F .contig l (gpi F (r a))
     words-single s i lo hi = up-true F L u u-pos r l a i (sym single-alike ∙ s) (in-here i lo hi)
 
     pub words-mixed : single F r a (span u l) ≡ false → (i : ℕ) → a ≤ i → i < a + span u l → capped F u r (suc l) i ≡ capped F u r l i
@@ -143,7 +150,8 @@ module _ (F : Format) (L : Laws F) (u : ℕ) (u-pos : 0 < u) where
         g ∙ onward-ext k (capped F u (at t) l) (capped F u (at t) (suc l)) a (span u l)
         (λ i lo hi. sym (words-mixed (at t) l a q al s i lo hi)) (walked t c)
 
-  pub by-flats : (k a m : ℕ) (t : List ℕ) (c : ℕ) (t₂ : List ℕ) (c₂ : ℕ) → Goes k (λ i. F .flat (at t i)) a m t c t₂ c₂ → Goes k (capped F u (at t) 0) a m t c t₂ c₂
+  pub by-flats : (k a m : ℕ) (t : List ℕ) (c : ℕ) (t₂ : List ℕ) (c₂ : ℕ) → Goes k (λ i. F .flat (at t i)) a m t c t₂ c₂
+      → Goes k (capped F u (at t) 0) a m t c t₂ c₂
   by-flats k a m t c t₂ c₂ g =
       g ∙ onward-ext k (λ i. F .flat (at t i)) (capped F u (at t) 0) a m (λ i lo hi. sym (capped-flat F L u u-pos (at t) i)) (walked t c)
 
@@ -155,16 +163,25 @@ first k t ss = walked (apply t (take k ss)) (length (take k ss))
 
 -- one store more
 first-snoc : (k : ℕ) (t : List ℕ) (ss : List Store) (s : Store)
-    → cond {A = Walk} (ltb (length (take k ss)) k) (walked (set (apply t (take k ss)) (s .index) (s .word)) (suc (length (take k ss)))) (first k t ss)
+    → cond {A = Walk} (ltb (length (take k ss)) k)
+    (walked (set (apply t (take k ss)) (s .index) (s .word)) (suc (length (take k ss)))) (first k t ss)
     ≡ first k t (ss ++ s ∷ [])
 unfolding apply
 first-snoc k t ss s = go (decLt (length ss) k)
   where
     go : Dec (length ss < k)
-        → cond {A = Walk} (ltb (length (take k ss)) k) (walked (set (apply t (take k ss)) (s .index) (s .word)) (suc (length (take k ss)))) (first k t ss)
+        → cond {A = Walk} (ltb (length (take k ss)) k)
+        (walked (set (apply t (take k ss)) (s .index) (s .word)) (suc (length (take k ss)))) (first k t ss)
         ≡ first k t (ss ++ s ∷ [])
     go (yes b) =
-        rw (take-all k ss (omega arith), take-all k (ss ++ s ∷ []) (simp length-append (omega arith)), lt-ltb (length ss) k b, apply-append t ss (s ∷ []), length-append ss (s ∷ []), add-one) refl
+        rw (
+          take-all k ss (omega arith),
+          take-all k (ss ++ s ∷ []) (simp length-append (omega arith)),
+          lt-ltb (length ss) k b,
+          apply-append t ss (s ∷ []),
+          length-append ss (s ∷ []),
+          add-one,
+        ) refl
     go (no b) =
         rw (take-append-le k ss (s ∷ []) (omega arith), le-ltb (length (take k ss)) k (omega (arith, length-take k ss))) refl
 
@@ -173,13 +190,15 @@ onward-repairs : (k : ℕ) (h : ℕ → ℕ) (t : List ℕ) (m : ℕ) → onward
 unfolding onward repairs apply
 onward-repairs k h t zero = rw (take-nil k) refl
 onward-repairs k h t (suc m) =
-    rw (repairs-suc (at t) h 0 m, onward-ahead k h 0 m (walked t 0) (0 + m) (omega arith), onward-repairs k h t m) (go (eqb (at t (0 + m)) (h (0 + m))))
+    rw (repairs-suc (at t) h 0 m, onward-ahead k h 0 m (walked t 0) (0 + m) (omega arith), onward-repairs k h t m)
+    (go (eqb (at t (0 + m)) (h (0 + m))))
   where
     ss : List Store
     ss = repairs (at t) h 0 m
 
     go : (b : Bool)
-        → cond {A = Walk} (ltb (length (take k ss)) k && not b) (walked (set (apply t (take k ss)) (0 + m) (h (0 + m))) (suc (length (take k ss)))) (first k t ss)
+        → cond {A = Walk} (ltb (length (take k ss)) k && not b)
+        (walked (set (apply t (take k ss)) (0 + m) (h (0 + m))) (suc (length (take k ss)))) (first k t ss)
         ≡ first k t (ss ++ cond b [] (repair h (0 + m) ∷ []))
     go true = rw (and-false, append-nil) refl
     go false = rw and-true (first-snoc k t (repairs (at t) h 0 m) (repair h (0 + m)))
@@ -189,5 +208,6 @@ pub mended : (F : Format) (u k : ℕ) (t : List ℕ) (t₂ : List ℕ) (c₂ : �
     → (t₂ ≡ mend F u k t) × (c₂ ≡ mendCount F u k t)
 unfolding mend mendCount mending
 mended F u k t t₂ c₂ g =
-    let e : walked t₂ c₂ ≡ walked (apply t (mending F u k t)) (length (mending F u k t)) = g ∙ onward-repairs k (normalWord F u (at t)) t (length t) in
+    let e : walked t₂ c₂ ≡ walked (apply t (mending F u k t)) (length (mending F u k t))
+    = g ∙ onward-repairs k (normalWord F u (at t)) t (length t) in
     (ap (λ (s : Walk). s .table) e, ap (λ (s : Walk). s .made) e)

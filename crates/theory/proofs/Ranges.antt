@@ -1,9 +1,10 @@
--- Aligned ranges: one within another, and within a table of whole 512 MB ranges.
+-- Aligned ranges: one within another, and within a table of whole 512 MB ranges. Of the crate `theory`.
 -- Assumes nothing.
 use mathlib.Core.Path.{_≡_, sym, ap}
 use mathlib.Core.List.{List}
 use Prim.Native.Nat.{ℕ, zero, suc, _+_, _*_, _/_, _≤_, _<_}
-use native.Mathlib.Nat.{div-div-eq-div-mul, mul-comm, mul-assoc, mul-le-mul-right, add-mul, div-mul-le-self, lt-div-mul-add, div-eq-of-lt-le, div-lt-iff-lt-mul, zero-add, suc-add}
+use native.Mathlib.Nat.{div-div-eq-div-mul, mul-comm, mul-assoc, mul-le-mul-right, add-mul, div-mul-le-self, lt-div-mul-add}
+use native.Mathlib.Nat.{div-eq-of-lt-le, div-lt-iff-lt-mul, zero-add, suc-add}
 use native.Mathlib.Decide.{decLt}
 use native.Mathlib.Omega.{arith}
 use lib.ListN.{length}

@@ -1,4 +1,4 @@
--- What a shatter stores, and what it leaves at each index.
+-- What a shatter stores, and what it leaves at each index. Of the crate `theory`.
 -- Assumes nothing.
 use mathlib.Core.Path.{_≡_, refl, sym, ap, _∙_}
 use mathlib.Core.Bool.{true}
@@ -59,12 +59,14 @@ module _ (F : Format) (u g i : ℕ) where
       (each-append _ (before l ++ stores (shatter F u g i l)) (after l)
       (each-append _ (before l) (stores (shatter F u g i l))
       (each-fill _ (base (16 * n) i) (base n i - base (16 * n) i) (F .contig l g) (λ j p q. (omega arith, omega arith, e)))
-      (each-of (Shatters l) _ (λ s h. (omega (arith, h .0), omega (arith, h .1), h .2)) (stores (shatter F u g i l)) (shatter-each L known l (omega arith))))
+      (each-of (Shatters l) _ (λ s h. (omega (arith, h .0), omega (arith, h .1), h .2)) (stores (shatter F u g i l))
+      (shatter-each L known l (omega arith))))
       (each-fill _ (base n i + n) (base (16 * n) i + 16 * n - (base n i + n)) (F .contig l g) (λ j p q. (omega arith, omega arith, e))))
 
   -- ---- what it leaves
 
-  apply-parts : (t : List ℕ) (l : ℕ) → apply t (stores (shatter F u g i (suc l))) ≡ apply (apply (apply t (before l)) (stores (shatter F u g i l))) (after l)
+  apply-parts : (t : List ℕ) (l : ℕ)
+      → apply t (stores (shatter F u g i (suc l))) ≡ apply (apply (apply t (before l)) (stores (shatter F u g i l))) (after l)
   apply-parts t l = rw (stores-parts l, apply-append, apply-append) refl
 
   -- in the part that holds i: what the next shatter leaves there
@@ -111,7 +113,8 @@ module _ (F : Format) (u g i : ℕ) where
             ∙ fill-in t (base (16 * n) i) (base n i - base (16 * n) i) (F .contig l g) k (h .from) (omega arith) b
         go (no x) (yes y) = absurd (o (in-of n i k (omega arith) y))
         go (no x) (no y) =
-            fill-in t₂ (base n i + n) (base (16 * n) i + 16 * n - (base n i + n)) (F .contig l g) k (omega arith) (omega (arith, h .to)) (omega (arith, len))
+            fill-in t₂ (base n i + n) (base (16 * n) i + 16 * n - (base n i + n)) (F .contig l g) k (omega arith) (omega (arith, h .to))
+            (omega (arith, len))
 
     -- where the word left at k is contiguous, all of its range has that word
     pub shatter-range : 0 < u → (n : ℕ) → n < 3 → (t : List ℕ) (k l : ℕ) → In (span u n) i k → ((j : ℕ) → In (span u n) i j → j < length t)
@@ -119,10 +122,13 @@ module _ (F : Format) (u g i : ℕ) where
         → (l < n) × ((j : ℕ) → In (span u l) k j → at (apply t (stores (shatter F u g i n))) j ≡ F .contig l g)
     shatter-range u-pos zero c t k l h inside e =
         let h₀ : In u i k = unfold span in h in
-        let x : at (apply t (stores (shatter F u g i zero))) k ≡ F .rep g = rw stores-least (fill-in t (base u i) u (F .rep g) k (h₀ .from) (h₀ .to) (inside k h)) in
-        let z : F .size (at (apply t (stores (shatter F u g i zero))) k) ≡ 0 = ap (F .size) (x ∙ sym (flat-rep F L g known)) ∙ L .size-of-flat (F .rep g) in
+        let x : at (apply t (stores (shatter F u g i zero))) k ≡ F .rep g
+        = rw stores-least (fill-in t (base u i) u (F .rep g) k (h₀ .from) (h₀ .to) (inside k h)) in
+        let z : F .size (at (apply t (stores (shatter F u g i zero))) k) ≡ 0
+        = ap (F .size) (x ∙ sym (flat-rep F L g known)) ∙ L .size-of-flat (F .rep g) in
         absurd (omega arith)
-    shatter-range u-pos (suc n) c t k l h inside e = go (in-dec (span u n) i k) (shatter-range u-pos n (omega arith) (apply t (before n)) k l)
+    shatter-range u-pos (suc n) c t k l h inside e =
+        go (in-dec (span u n) i k) (shatter-range u-pos n (omega arith) (apply t (before n)) k l)
       where
         pos : (m : ℕ) → 0 < span u m
         pos m = span-pos u m u-pos

@@ -1,17 +1,16 @@
--- Laws of stores: lists of them append; a fill, by its turns and by index; stores that keep what a map says of the words, and cuts of them; a
--- table that is a part of an arena.
+-- Laws of stores, in the crate `theory`: lists of them append; a fill, by its turns and by index; stores that keep what a map says of the
+-- words, and cuts of them.
 -- Assumes nothing.
 use mathlib.Core.Path.{_≡_, refl, sym, ap, _∙_}
 use mathlib.Core.List.{List, [], _∷_, _++_, map}
 use Prim.Native.Nat.{ℕ, zero, suc, _+_, _-_, _≤_, _<_}
-use native.Mathlib.Nat.{add-zero, add-suc, suc-add, zero-add}
+use native.Mathlib.Nat.{add-zero, add-suc, suc-add}
 use native.Mathlib.Decide.{ℕ-discrete}
 use native.Mathlib.Omega.{arith}
-use borrow.Rule.Slice.PartMut.{midOf, postOf, putMid, put-same}
-use lib.ListN.{length, take, drop, set, List·getD-map, length-set, length-drop}
-use lib.Seq.{map-set-same, take-append-le, take-append-add, take-length, getD-set-same, getD-set-other, set-append-left, length-take-le}
+use lib.ListN.{length, take, set, List·getD-map, length-set}
+use lib.Seq.{map-set-same, take-append-le, take-append-add, take-length, getD-set-same, getD-set-other}
 use Rattle.theory.specs.Normal.{at}
-use Rattle.theory.specs.Stores.{Store, apply, cut, fill, moved, shifted, Each, Inside, Keeps}
+use Rattle.theory.specs.Stores.{Store, apply, cut, fill, Each, Keeps}
 
 -- ---- what holds of every store
 
@@ -61,7 +60,8 @@ pub apply-out : (t : List ℕ) (a n : ℕ) (ss : List Store) → Each (λ s. (a 
 unfolding apply
 apply-out t a n [] h k q = refl
 apply-out t a n (s ∷ ss) h k q =
-    apply-out (set t (s .index) (s .word)) a n ss (h .1) k q ∙ getD-set-other t (s .index) k (s .word) 0 (λ e. q (omega arith) (omega arith))
+    apply-out (set t (s .index) (s .word)) a n ss (h .1) k q
+    ∙ getD-set-other t (s .index) k (s .word) 0 (λ e. q (omega arith) (omega arith))
 
 -- ---- a fill
 
@@ -99,7 +99,8 @@ pub map-apply : (f : ℕ → ℕ) (t : List ℕ) (ss : List Store) → Keeps f (
 unfolding apply
 map-apply f t [] k = refl
 map-apply f t (s ∷ ss) k =
-    let e : map f (set t (s .index) (s .word)) ≡ map f t = map-set-same f t (s .index) (s .word) 0 (k .0 ∙ List·getD-map f t (s .index) 0) in
+    let e : map f (set t (s .index) (s .word)) ≡ map f t
+    = map-set-same f t (s .index) (s .word) 0 (k .0 ∙ List·getD-map f t (s .index) 0) in
     map-apply f (set t (s .index) (s .word)) ss (rw e (k .1)) ∙ e
 
 -- stores a, one store s, stores b: where those of a keep the old image and those of b the image with s made
@@ -117,42 +118,7 @@ module _ (f : ℕ → ℕ) (t : List ℕ) (a : List Store) (s : Store) (b : List
       let m : ℕ = k - suc (length a) in
       let e : k ≡ length a + suc m = omega arith in
       let t₂ : List ℕ = set (apply t a) (s .index) (s .word) in
-      let e₂ : map f t₂ ≡ set (map f t) (s .index) (f (s .word)) = map-set f (apply t a) (s .index) (s .word) ∙ rw (map-apply f t a ka) refl in
+      let e₂ : map f t₂ ≡ set (map f t) (s .index) (f (s .word))
+      = map-set f (apply t a) (s .index) (s .word) ∙ rw (map-apply f t a ka) refl in
       rw (e, take-append-add a (s ∷ b) (suc m), apply-append t a (s ∷ take m b))
       (map-apply f t₂ (take m b) (rw e₂ (each-take _ m b kb)) ∙ e₂)
-
--- ---- a table as a part of an arena
-
-set-append-right : (xs ys : List ℕ) (i a : ℕ) → set (xs ++ ys) (length xs + i) a ≡ xs ++ set ys i a
-set-append-right [] ys i a = rw zero-add refl
-set-append-right (x ∷ xs) ys i a = rw suc-add (ap (λ (r : List ℕ). x ∷ r) (set-append-right xs ys i a))
-
-apply-around : (a t c : List ℕ) (ss : List Store) → Inside (length t) ss → apply (a ++ (t ++ c)) (shifted (length a) ss) ≡ a ++ (apply t ss ++ c)
-unfolding apply
-apply-around a t c [] h = refl
-apply-around a t c (s ∷ ss) h =
-    ap (λ (l : List ℕ). apply l (shifted (length a) ss))
-    (set-append-right a (t ++ c) (s .index) (s .word) ∙ ap (λ (l : List ℕ). a ++ l) (set-append-left t c (s .index) (s .word) (h .0)))
-    ∙ apply-around a (set t (s .index) (s .word)) c ss (rw length-set (h .1))
-
-take-shifted : (o k : ℕ) (ss : List Store) → take k (shifted o ss) ≡ shifted o (take k ss)
-take-shifted o zero ss = refl
-take-shifted o (suc k) [] = refl
-take-shifted o (suc k) (s ∷ ss) = ap (λ (r : List Store). moved o s ∷ r) (take-shifted o k ss)
-
--- the n words of the arena A from o on, `midOf o n A`, are a table
-module _ (A : List ℕ) (o n : ℕ) (fits : o + n ≤ length A) where
-  pub length-part : length (midOf o n A) ≡ n
-  length-part = length-take-le n (drop o A) (rw length-drop (omega arith))
-
-  -- stores within the table, made in the arena where it stands, are made in the table alone
-  pub apply-part : (ss : List Store) → Inside n ss → apply A (shifted o ss) ≡ putMid o n A (apply (midOf o n A) ss)
-  apply-part ss h =
-      ap (λ (l : List ℕ). apply l (shifted o ss)) (sym (put-same o n A))
-      ∙ ap (λ (k : ℕ). apply (putMid o n A (midOf o n A)) (shifted k ss)) (sym (length-take-le o A (omega arith)))
-      ∙ apply-around (take o A) (midOf o n A) (postOf o n A) ss (rw length-part h)
-
-  -- so is a cut: the arena cut after k stores is the arena with the table cut so
-  pub cut-part : (ss : List Store) → Inside n ss → (k : ℕ) → cut k A (shifted o ss) ≡ putMid o n A (cut k (midOf o n A) ss)
-  unfolding cut
-  cut-part ss h k = rw (take-shifted o k ss) (apply-part (take k ss) (each-take _ k ss h))

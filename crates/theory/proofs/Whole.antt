@@ -1,4 +1,5 @@
--- Whole tables: a normal table is whole, a whole table's entries agree, a finished set keeps a table whole, a finished mend makes it so.
+-- Whole tables: a normal table is whole, a whole table's entries agree, a finished set keeps a table whole, a finished mend makes it so. Of
+-- the crate `theory`.
 -- Assumes nothing.
 use mathlib.Core.Path.{_≡_, refl, sym, ap, _∙_}
 use mathlib.Core.Bool.{true}
@@ -15,7 +16,9 @@ use Rattle.theory.specs.Normal.{at, span, base, In, normalWord, build, n
 use Rattle.theory.specs.Stores.{apply, fill}
 use Rattle.theory.specs.Mend.{mend, mends, repairs, mending}
 use Rattle.theory.specs.Events.{stores}
-use Rattle.theory.specs.Set.{shatter, breaks, broken, newWord, Fused, nowhere, level, refused, fused, fusing, setStores, Agrees}
+use Rattle.theory.specs.declared.Fused.{Fused}
+use Rattle.theory.specs.declared.Fused.the-variants.{Nowhere, Level, Refused}
+use Rattle.theory.specs.Set.{Target, shatter, breaks, broken, newWord, fused, fusing, setStores, Agrees, Aimed}
 use Rattle.theory.specs.Whole.{Same, Whole}
 use Rattle.theory.proofs.Lists.{length-build, at-build}
 use Rattle.theory.proofs.Stores.{each-of, apply-append, length-apply, apply-out, fill-in, fill-out}
@@ -24,7 +27,7 @@ use Rattle.theory.proofs.Normal.{length-normal, at-normal, normal-norma
 use Rattle.theory.proofs.Levels.{Ranged, capped-range, up-true}
 use Rattle.theory.proofs.Mend.{mends-then}
 use Rattle.theory.proofs.Shatter.{stores-fill, Shatters, shatter-each, shatter-range, flat-rep}
-use Rattle.theory.proofs.Set.{granuleStore, stores-set, broken-at, fusing-level}
+use Rattle.theory.proofs.Set.{granuleStore, last, stores-set, broken-at, fusing-level}
 
 module _ (F : Format) (L : Laws F) (u : ℕ) (u-pos : 0 < u) where
   -- ---- whole implies agreement
@@ -100,17 +103,20 @@ module _ (F : Format) (L : Laws F) (u : ℕ) (u-pos : 0 < u) where
           known : F .known (gpi F (at t i)) ≡ true
           known = L .known-low (at t i) (L .size-valid (at t i) n e)
 
-          apart : (k l : ℕ) → k < length t → (In (span u n) i k → ⊥) → F .size (at t k) ≡ suc l → (k′ : ℕ) → In (span u l) k k′ → In (span u n) i k′ → ⊥
+          apart : (k l : ℕ) → k < length t → (In (span u n) i k → ⊥) → F .size (at t k) ≡ suc l → (k′ : ℕ) → In (span u l) k k′
+              → In (span u n) i k′ → ⊥
           apart k l b o q k′ h p =
               let a : F .size (at t k′) ≡ F .size (at t k) = (w .whole k l b q k′ h) .size in
               let c : F .size (at t k′) ≡ F .size (at t i) = (w .whole i n i< e k′ p) .size in
               let z : l ≡ n = omega arith in
               o (in-trans (span u n) i k′ k p (in-sym (span u n) k k′ (span-pos u n u-pos) (rw z at h)))
 
-          inside : (k l : ℕ) → k < length t → In (span u n) i k → F .size (at t′ k) ≡ suc l → (k′ : ℕ) → In (span u l) k k′ → Same F (at t′ k′) (at t′ k)
+          inside : (k l : ℕ) → k < length t → In (span u n) i k → F .size (at t′ k) ≡ suc l → (k′ : ℕ) → In (span u l) k k′
+              → Same F (at t′ k′) (at t′ k)
           inside k l b p q k′ h =
               let x : (l < n) × ((j : ℕ) → In (span u l) k j → at t′ j ≡ F .contig l (gpi F (at t i)))
-              = shatter-range F u (gpi F (at t i)) i L known u-pos n small t k l p (λ j y. in-table u u-pos t m regions i i< n j small y) q in
+              = shatter-range F u (gpi F (at t i)) i L known u-pos n small t k l p
+              (λ j y. in-table u u-pos t m regions i i< n j small y) q in
               let k-in : In (span u l) k k = in-trans (span u l) k k′ k h (in-sym (span u l) k k′ (span-pos u l u-pos) h) in
               same-of (at t′ k′) (at t′ k) (F .contig l (gpi F (at t i))) (x .1 k′ h) (x .1 k k-in)
 
@@ -130,7 +136,8 @@ module _ (F : Format) (L : Laws F) (u : ℕ) (u-pos : 0 < u) where
           w
 
       -- a fuse around a granule word
-      fuse-whole : (g n : ℕ) → F .known g ≡ true → n < 3 → F .size (at t i) ≡ 0 → Whole F u (apply t (fill (base (span u n) i) (span u n) (F .contig n g)))
+      fuse-whole : (g n : ℕ) → F .known g ≡ true → n < 3 → F .size (at t i) ≡ 0
+          → Whole F u (apply t (fill (base (span u n) i) (span u n) (F .contig n g)))
       fuse-whole g n kn small e₀ =
           patch t t′ (In (span u n) i) (in-dec (span u n) i) (length-apply t (fill (base (span u n) i) (span u n) (F .contig n g)))
           (λ k o. fill-out t (base (span u n) i) (span u n) (F .contig n g) k (λ a b. o (in-of (span u n) i k a b)))
@@ -149,7 +156,8 @@ module _ (F : Format) (L : Laws F) (u : ℕ) (u-pos : 0 < u) where
           filled : (k : ℕ) → k < length t → In (span u n) i k → at t′ k ≡ F .contig n g
           filled k b h = fill-in t (base (span u n) i) (span u n) (F .contig n g) k (h .from) (h .to) b
 
-          apart : (k l : ℕ) → k < length t → (In (span u n) i k → ⊥) → F .size (at t k) ≡ suc l → (k′ : ℕ) → In (span u l) k k′ → In (span u n) i k′ → Dec (n < l) → ⊥
+          apart : (k l : ℕ) → k < length t → (In (span u n) i k → ⊥) → F .size (at t k) ≡ suc l → (k′ : ℕ) → In (span u l) k k′
+              → In (span u n) i k′ → Dec (n < l) → ⊥
           apart k l b o q k′ h p (yes d) =
               let z : (l - n) + n ≡ l = omega arith in
               let c : In (span u l) k′ i = rw z at (in-le u n (l - n) k′ i (in-sym (span u n) i k′ (span-pos u n u-pos) p)) in
@@ -162,19 +170,21 @@ module _ (F : Format) (L : Laws F) (u : ℕ) (u-pos : 0 < u) where
 
   -- ---- a finished set
 
-  module _ (t : List ℕ) (m : ℕ) (regions : length t ≡ m * span u 2) (i j g x b : ℕ) (i< : i < length t) (j< : j < 16)
-      (ok : F .valid (at t i) ≡ true) (known : F .known g ≡ true) (w : Whole F u t) where
+  module _ (t : List ℕ) (m : ℕ) (regions : length t ≡ m * span u 2) (q : Target) (a : Aimed F t q) (w : Whole F u t) where
+    abbrev i : ℕ
+    i = q .word
+
     abbrev t₁ : List ℕ
     t₁ = apply t (stores (broken F u t i))
 
     abbrev t₂ : List ℕ
-    t₂ = set (apply t (stores (broken F u t i))) i (newWord F t i j g)
+    t₂ = set t₁ i (newWord F t q)
 
     len₁ : length t₁ ≡ length t
     len₁ = length-apply t (stores (broken F u t i))
 
     len₂ : length t₂ ≡ length t
-    len₂ = length-set t₁ i (newWord F t i j g) ∙ len₁
+    len₂ = length-set t₁ i (newWord F t q) ∙ len₁
 
     whole₁ : Whole F u t₁
     unfolding broken breaks apply stores
@@ -182,39 +192,44 @@ module _ (F : Format) (L : Laws F) (u : ℕ) (u-pos : 0 < u) where
       where
         go : (s : ℕ) → F .size (at t i) ≡ s → Whole F u (apply t (stores (breaks F u (gpi F (at t i)) i s)))
         go zero e = w
-        go (suc l) e = shatter-whole t m regions i i< w l e
+        go (suc l) e = shatter-whole t m regions i (a .is-word) w l e
 
     size₁ : F .size (at t₁ i) ≡ 0
-    size₁ = ap (F .size) (broken-at F L u u-pos t i i<) ∙ L .size-of-flat (at t i)
+    size₁ = ap (F .size) (broken-at F L u u-pos t i (a .is-word)) ∙ L .size-of-flat (at t i)
 
-    size-new : F .size (newWord F t i j g) ≡ 0
+    size-new : F .size (newWord F t q) ≡ 0
     unfolding newWord
-    size-new = ap (F .size) (sym (L .put-flat (at t i) j g ok j< known)) ∙ L .size-of-flat (F .put (F .flat (at t i)) j g)
+    size-new =
+        ap (F .size) (sym (L .put-flat (at t i) (q .granule) (q .gpi) (a .is-valid) (a .is-granule) (a .is-gpi)))
+        ∙ L .size-of-flat (F .put (F .flat (at t i)) (q .granule) (q .gpi))
 
     whole₂ : Whole F u t₂
-    whole₂ = granule-whole t₁ m (len₁ ∙ regions) i (omega (arith, len₁)) whole₁ (newWord F t i j g) size₁ size-new
+    whole₂ = granule-whole t₁ m (len₁ ∙ regions) i (omega (arith, len₁, a .is-word)) whole₁ (newWord F t q) size₁ size-new
 
     size₂ : F .size (at t₂ i) ≡ 0
-    size₂ = ap (F .size) (getD-set-same t₁ i (newWord F t i j g) 0 (omega (arith, len₁))) ∙ size-new
+    size₂ = ap (F .size) (getD-set-same t₁ i (newWord F t q) 0 (omega (arith, len₁, a .is-word))) ∙ size-new
 
     -- A finished set keeps a table whole, whether it fuses, doesn't, or answers 10.
-    pub set-whole : Whole F u (apply t (setStores F u t i j g x b))
+    pub set-whole : Whole F u (apply t (setStores F u t q))
     unfolding fused apply stores
     set-whole =
-        rw (stores-set F u t i j g x b, apply-append t (stores (broken F u t i)) (granuleStore F t i j g ∷ stores (fused F u g i (fusing F u t i j g))))
-        (go (fusing F u t i j g) refl)
+        rw (stores-set F u t q, apply-append t (stores (broken F u t i)) (granuleStore F t q ∷ stores (last F u t q)))
+        (go (fusing F u t q) refl)
       where
-        go : (f : Fused) → fusing F u t i j g ≡ f → Whole F u (apply t₂ (stores (fused F u g i f)))
-        go nowhere e = whole₂
-        go (level l) e =
-            rw (stores-fill (base (span u l) i) (span u l) (F .contig l g))
-            (fuse-whole t₂ m (len₂ ∙ regions) i (omega (arith, len₂)) whole₂ g l known ((fusing-level F u t i j g l e) .0) size₂)
-        go refused e = whole₂
+        go : (f : Fused) → fusing F u t q ≡ f → Whole F u (apply t₂ (stores (fused F u (q .gpi) i f)))
+        go Nowhere e = whole₂
+        go (Level l) e =
+            rw (stores-fill (base (span u l) i) (span u l) (F .contig l (q .gpi)))
+            (fuse-whole t₂ m (len₂ ∙ regions) i (omega (arith, len₂, a .is-word)) whole₂ (q .gpi) l (a .is-gpi)
+            ((fusing-level F u t q l e) .0) size₂)
+        go (Refused k) e = whole₂
 
   -- Mends of any table, of any limits, and then one that no limit stops, leave a whole table: it is the normal table of the start.
-  pub mends-whole : (t : List ℕ) (m : ℕ) → length t ≡ m * span u 2 → (ks : List ℕ) (n : ℕ) → length t ≤ n → Whole F u (mend F u n (mends F u ks t))
+  pub mends-whole : (t : List ℕ) (m : ℕ) → length t ≡ m * span u 2 → (ks : List ℕ) (n : ℕ) → length t ≤ n
+      → Whole F u (mend F u n (mends F u ks t))
   mends-whole t m regions ks n long =
-      rw (mends-then F L u u-pos ks n t long) (normal-whole (normal F u t) m (length-normal F L u t ∙ regions) (sym (normal-normal F L u u-pos t)))
+      rw (mends-then F L u u-pos ks n t long)
+      (normal-whole (normal F u t) m (length-normal F L u t ∙ regions) (sym (normal-normal F L u u-pos t)))
 
   -- ---- a mend that its limit stops
 
@@ -234,7 +249,11 @@ module _ (F : Format) (L : Laws F) (u : ℕ) (u-pos : 0 < u) where
     unfolding reads
     reads-rep =
         let v : F .valid (F .rep g) ≡ true
-        = cc (L .flat-contig 0 g (omega arith) known, L .valid-flat (F .contig 0 g), L .size-valid (F .contig 0 g) 0 (L .size-contig 0 g (omega arith) known)) in
+        = cc (
+          L .flat-contig 0 g (omega arith) known,
+          L .valid-flat (F .contig 0 g),
+          L .size-valid (F .contig 0 g) 0 (L .size-contig 0 g (omega arith) known),
+        ) in
         rw v (eq-eqb (F .flat (F .rep g)) (F .rep g) (flat-rep F L g known))
 
     size-granules : (k : ℕ) → k < span u 2 → F .size (at granules k) ≡ 0
@@ -247,7 +266,8 @@ module _ (F : Format) (L : Laws F) (u : ℕ) (u-pos : 0 < u) where
     normal-granules =
         up-true F L u u-pos (at granules) 2 0 0
         (rw gpi-granules
-        (alike-of F (at granules) (span u 2) 0 g (λ k h. rw (at-granules k (omega (arith, h .to, div-mul-le-self 0 (span u 2)))) reads-rep)))
+        (alike-of F (at granules) (span u 2) 0 g
+        (λ k h. rw (at-granules k (omega (arith, h .to, div-mul-le-self 0 (span u 2)))) reads-rep)))
         (in-self (span u 2) 0 (omega (arith, large)))
         ∙ ap (F .contig 2) gpi-granules
 
@@ -260,11 +280,14 @@ module _ (F : Format) (L : Laws F) (u : ℕ) (u-pos : 0 < u) where
     stopped = go (length granules) (rw length-build (omega (arith, large)))
       where
         go : (n : ℕ) → 0 < n
-            → apply granules (take 1 (repairs (at granules) (normalWord F u (at granules)) 0 n)) ≡ set granules 0 (normalWord F u (at granules) 0)
+            → apply granules (take 1 (repairs (at granules) (normalWord F u (at granules)) 0 n))
+            ≡ set granules 0 (normalWord F u (at granules) 0)
         go zero b = absurd (omega arith)
         go (suc n) b =
             rw (ne-eqb (at granules 0) (normalWord F u (at granules) 0)
-            (λ q. let z : F .size (at granules 0) ≡ 3 = ap (F .size) q ∙ size-normal in omega (arith, size-granules 0 (omega (arith, large))))) refl
+            (λ q.
+            let z : F .size (at granules 0) ≡ 3 = ap (F .size) q ∙ size-normal in
+            omega (arith, size-granules 0 (omega (arith, large))))) refl
 
     -- A mend that its limit stopped need not leave a whole table: that word claims 512 MB of granule words.
     pub stopped-not-whole : Whole F u (mend F u 1 granules) → ⊥
@@ -276,7 +299,8 @@ module _ (F : Format) (L : Laws F) (u : ℕ) (u-pos : 0 < u) where
         let next : at (set granules 0 (normalWord F u (at granules) 0)) 1 ≡ at granules 1
         = getD-set-other granules 0 1 (normalWord F u (at granules) 0) 0 (λ q. omega arith) in
         let s : F .size (at (set granules 0 (normalWord F u (at granules) 0)) 0) ≡ 3 = ap (F .size) here ∙ size-normal in
-        let z : F .size (at (set granules 0 (normalWord F u (at granules) 0)) 1) ≡ 0 = ap (F .size) next ∙ size-granules 1 (omega (arith, large)) in
+        let z : F .size (at (set granules 0 (normalWord F u (at granules) 0)) 1) ≡ 0
+        = ap (F .size) next ∙ size-granules 1 (omega (arith, large)) in
         let e : Same F (at (set granules 0 (normalWord F u (at granules) 0)) 1) (at (set granules 0 (normalWord F u (at granules) 0)) 0)
         = w′ .whole 0 2 (rw length-set (omega (arith, large))) s 1
         (in-of (span u 2) 0 1 (omega (arith, div-mul-le-self 0 (span u 2))) (omega (arith, large))) in

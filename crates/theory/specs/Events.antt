@@ -1,5 +1,5 @@
--- Document 01, "Set, step by step", the log: what a set does, in order, as events; their stores; their records, laid over the log; and the log
--- read back by a rule of its own. One definition of each, for the code's contracts and for the theorems.
+-- Document 01, "Set, step by step", the log: what a set does, in order, as events; their stores; their records, laid over the log; and the
+-- log read back by a rule of its own. One definition of each, for the code's contracts and for the theorems. Of the crate `theory`.
 -- Assumes nothing.
 use mathlib.Core.Bool.{true, false}
 use mathlib.Core.List.{List, [], _∷_, _++_}
@@ -9,25 +9,28 @@ use lib.ListN.{drop, getD}
 use lib.Seq.{sets}
 use Rattle.theory.specs.Stores.{Store, fill}
 
--- the five kinds of record; an index is one of the table
+-- the kinds of barrier, and their numbers in the log: 2 DSB OSHST, 3 TLBI range, 4 DSB OSH
+pub data Kind : Type 0 where
+  dsb-oshst tlbi dsb-osh : Kind
+
+abbrev pub kindNumber : Kind → ℕ
+kindNumber dsb-oshst = 2
+kindNumber tlbi = 3
+kindNumber dsb-osh = 4
+
+-- what a set does; an index is one of the table
 pub data Event : Type 0 where
-  -- 1: index, count, word
+  -- a fill: index, count, word
   filled : ℕ → ℕ → ℕ → Event
-  -- 2
-  dsb-oshst : Event
-  -- 3: address as given, bytes
-  tlbi : ℕ → ℕ → Event
-  -- 4
-  dsb-osh : Event
-  -- 5: index, granule, new word
+  -- a granule store: index, granule, new word
   granule : ℕ → ℕ → ℕ → Event
+  -- a barrier, which stores nothing: a TLBI tells the address as given and the bytes, the others 0 and 0
+  barrier : Kind → ℕ → ℕ → Event
 
 abbrev pub storesOf : Event → List Store
 storesOf (filled a n w) = fill a n w
-storesOf dsb-oshst = []
-storesOf (tlbi x b) = []
-storesOf dsb-osh = []
 storesOf (granule i j w) = record { index = i; word = w } ∷ []
+storesOf (barrier k x y) = []
 
 -- the stores of events, in order
 unfoldable pub stores : List Event → List Store
@@ -37,22 +40,18 @@ stores (e ∷ es) = storesOf e ++ stores es
 -- how many stores an event makes, and events make: "all fill counts plus one" of a set
 abbrev pub countOf : Event → ℕ
 countOf (filled a n w) = n
-countOf dsb-oshst = 0
-countOf (tlbi x b) = 0
-countOf dsb-osh = 0
 countOf (granule i j w) = 1
+countOf (barrier k x y) = 0
 
 unfoldable pub count : List Event → ℕ
 count [] = 0
 count (e ∷ es) = countOf e + count es
 
--- "records of four words, unused words zero"; o is the arena index of the table
+-- "records of four words, unused words zero": 1 is a fill, 5 a granule store; o is the arena index of the table
 abbrev pub recordOf : ℕ → Event → List ℕ
 recordOf o (filled a n w) = 1 ∷ (o + a) ∷ n ∷ w ∷ []
-recordOf o dsb-oshst = 2 ∷ 0 ∷ 0 ∷ 0 ∷ []
-recordOf o (tlbi x b) = 3 ∷ x ∷ b ∷ 0 ∷ []
-recordOf o dsb-osh = 4 ∷ 0 ∷ 0 ∷ 0 ∷ []
 recordOf o (granule i j w) = 5 ∷ (o + i) ∷ j ∷ w ∷ []
+recordOf o (barrier k x y) = kindNumber k ∷ x ∷ y ∷ 0 ∷ []
 
 unfoldable pub records : ℕ → List Event → List ℕ
 records o [] = []

@@ -7,4 +7,3 @@ pub mod Set
 pub mod Mend
 pub mod Onward
 pub mod Whole
-pub mod Moves

@@ -1,4 +1,5 @@
--- Document 01, "A store is one whole word. Fills run upward", and a cut: "the lent table with the first k stores made".
+-- Document 01, "A store is one whole word. Fills run upward", and a cut: "the lent table with the first k stores made". Of the crate
+-- `theory`.
 -- Assumes nothing.
 use mathlib.Core.Path.{_≡_}
 use mathlib.Core.List.{List, [], _∷_, map}
@@ -40,7 +41,7 @@ Each P (s ∷ ss) = P s × Each P ss
 abbrev pub Inside : ℕ → List Store → Type 0
 Inside n ss = Each (λ s. s .index < n) ss
 
--- every store writes a word of which f says what m has at the store's index: it keeps m, the image of a table under f. Said against a fixed m, and
--- not against the running table, so that it is a fact of the list of stores alone
+-- every store writes a word of which f says what m has at the store's index: it keeps m, the image of a table under f. Said against a fixed
+-- m, and not against the running table, so that it is a fact of the list of stores alone
 abbrev pub Keeps : (ℕ → ℕ) → List ℕ → List Store → Type 0
 Keeps f m ss = Each (λ s. f (s .word) ≡ getD m (s .index) (f 0)) ss

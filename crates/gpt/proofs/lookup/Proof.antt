@@ -7,7 +7,7 @@ use borrow.Author.Needs.{needs}
 use lib.ListN.{length}
 use Rattle.resolve.specs.declared.Call.the-variants.{Plain}
 use Rattle.resolve.specs.Sited.{Sited}
-use Rattle.theory.proofs.Arena.{table-length}
+use Rattle.theory.proofs.Arena.{length-table}
 use Rattle.resolve.specs.Lent.{lent}
 use Rattle.resolve.proofs.Found.{found}
 use Rattle.gpt.specs.Lookup.{lookedAt, lookupOf}

@@ -2,6 +2,8 @@
 -- Assumes nothing.
 use mathlib.Core.Path.{_∙_}
 use borrow.Author.Needs.{needs}
+use Rattle.l1.specs.Arm.{arm, levelOf}
+use Rattle.l1.proofs.Arm.{level-lt}
 use Rattle.stores.proofs.Events.{after}
 use Rattle.set_table.proofs.Breaks.{shatter-room, barriers-room}
 use Rattle.set_table.proofs.break_up.Statement.{statement}
@@ -10,13 +12,13 @@ use Rattle.set_table.proofs.break_up.Tie as tie
 shatter-contig-requires : tie.Need-shatter-contig-requires
 shatter-contig-requires c κs =
     let s = c .before .before .before .before in
-    (s .pre .0, shatter-room (s .pre .0) (s .pre .1) (s .args .size))
+    (s .pre .0, shatter-room arm (s .args .q .unit) (levelOf (s .args .size)) (level-lt (s .args .size)) (s .pre .1))
 
 barriers-requires : tie.Need-barriers-requires
 barriers-requires c κs =
     let h = c .before .before .before .before .before .before .before in
     let s = h .before .before .before .before .before in
-    barriers-room (s .pre .0) (s .pre .1) (s .args .size) _ (h .shatter-contig .ensures)
+    barriers-room arm (s .args .q .unit) (levelOf (s .args .size)) (level-lt (s .args .size)) _ _ (s .pre .1) (h .shatter-contig .ensures)
 
 same-length : tie.Need-same-length
 same-length c = c .before .before .before .before .before .before .before .before .before .before .shatter-contig .kept .0

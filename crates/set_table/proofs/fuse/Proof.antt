@@ -4,34 +4,36 @@ use native.Mathlib.Omega.{arith}
 use borrow.Author.Needs.{needs}
 use Rattle.theory.specs.Set.{fused}
 use Rattle.stores.proofs.Events.{none}
-use Rattle.stores.proofs.Places.{Lies}
+use Rattle.set_table.proofs.Places.{Lies}
 use Rattle.set_table.proofs.Fuses.{fuse-lies, fuse-fills, fuse-done}
 use Rattle.set_table.proofs.fuse.Statement.{statement}
 use Rattle.set_table.proofs.fuse.Tie as tie
 
--- where the range lies
-within : (c : tie.After-span) → Lies (c .before .before .before .before .before .before .args .table .now) (c .before .before .before .before .before .before .args .q .index) (c .span .result)
-within c = fuse-lies (c .before .before .before .before .before .before .pre .0) (c .before .before .m .given .0 .0) (c .span .ensures)
+abbrev start : tie.After-span → tie.Start
+start c = c .before .before .before .before .before .before .before
 
-enum-told : tie.Need-enum-told
-enum-told c = search needs
+-- where the range lies
+within : (c : tie.After-span) → Lies (start c .args .table .now) (start c .args .q .index) (c .span .result)
+within c = fuse-lies (start c .pre .0) (c .before .size-at .result) (c .span .ensures)
+
+size-at-requires : tie.Need-size-at-requires
+size-at-requires c κs = c .before .before .before .before .before .pre .1 .0 _ (c .before .m .given .1)
 
 span-requires : tie.Need-span-requires
-span-requires c κs = c .before .before .before .before .before .pre .0 .most
+span-requires c κs = c .before .before .before .before .before .before .pre .0 .most
 
 div-fill-descs : tie.Need-div-fill-descs
 div-fill-descs c = within (c .before .before .before) .pos
 
 mul-fill-descs : tie.Need-mul-fill-descs
 mul-fill-descs c =
-    let p = c .before .before .before .before .before .before .before .before .before .pre .0 in
-    omega (arith, within (c .before .before .before) .low, p .index, p .small)
+    let n = c .before .before .before in
+    omega (arith, within n .low, start n .pre .0 .index, start n .pre .0 .small)
 
 fill-descs-requires : tie.Need-fill-descs-requires
 fill-descs-requires c κs =
-    let s = c .before .before .before in
-    let p = s .before .before .before .before .before .before .pre in
-    fuse-fills (p .0) (p .1) (s .before .before .m .given .0 .0) (s .span .ensures)
+    let n = c .before .before .before in
+    fuse-fills (start n .pre .0) (n .before .size-at .result) (n .span .ensures) (start n .pre .1 .1)
 
 returns : tie.Need-returns
 unfolding fused
@@ -47,8 +49,11 @@ returns-2 : tie.Need-returns-2
 returns-2 c =
     let f = c .before .before .before .before in
     let w = f .before .before .before in
-    let s = w .before in
-    rw (s .before .before .m .given .1) (fuse-done _ _ (s .before .before .m .given .0 .0) (s .before .before .before .before .before .before .args .q .gpi) _ (s .span .ensures) (w .contig .ensures) (f .fill-descs .ensures))
+    let n = w .before in
+    let z = n .before in
+    rw (z .before .before .m .given .1)
+    (fuse-done _ _ _ (z .size-at .result) (z .size-at .ensures) (start n .args .q .gpi) _ (n .span .ensures) (w .contig .ensures)
+    (f .fill-descs .ensures))
 
 returns-3 : tie.Need-returns-3
 unfolding fused
@@ -58,8 +63,9 @@ pub fuse-spec : {M : Type 1} → statement M
 fuse-spec =
     tie.close
     (tie.spec
-    enum-told
     (λ c. search needs)
+    (λ c. search needs)
+    size-at-requires
     span-requires
     (λ c κs. search needs)
     div-fill-descs

@@ -1,9 +1,13 @@
 -- `set_table::set_granule` meets its contract: the granule store, its barriers, the scans, the fuse.
 -- Assumes nothing.
-use mathlib.Core.Path.{_∙_}
+use mathlib.Core.Path.{sym, _∙_}
 use native.Mathlib.Omega.{arith}
 use borrow.Author.Needs.{needs}
-use Rattle.stores.proofs.Places.{still}
+use Rattle.theory.proofs.Set.{climbed}
+use Rattle.l1.specs.Arm.{arm}
+use Rattle.stores.proofs.Events.{less}
+use Rattle.set_table.specs.Table.{targetOf}
+use Rattle.set_table.proofs.Places.{still}
 use Rattle.set_table.proofs.Sets.{fuse-room, grant}
 use Rattle.set_table.proofs.set_granule.Statement.{statement}
 use Rattle.set_table.proofs.set_granule.Tie as tie
@@ -11,7 +15,7 @@ use Rattle.set_table.proofs.set_granule.Tie as tie
 store-granule-requires : tie.Need-store-granule-requires
 store-granule-requires c κs =
     let s = c .before .before .before .before .before .before .before in
-    (s .pre .0 .index, record { arena = s .pre .1 .1 .arena; room = omega (arith, s .pre .1 .1 .room); few = omega (arith, s .pre .1 .1 .few) })
+    (s .pre .0 .index, less 5 _ 1 1 (s .pre .1 .1) (omega arith) (omega arith))
 
 barriers-requires : tie.Need-barriers-requires
 barriers-requires c κs =
@@ -27,10 +31,16 @@ fuse-descriptors-requires c κs =
 
 fuse-requires : tie.Need-fuse-requires
 fuse-requires c κs =
-    let b = c .before .before .before .before .before .before in
+    let m = c .before .before in
+    let b = m .before .before .before .before in
     let d = b .before .before .before .before .before .before in
-    let s = d .before .before .before .before .before .before .before .before in
-    (still (d .store-granule .ensures) (s .pre .0), fuse-room (s .pre .1 .1) (d .store-granule .ensures) (b .barriers .ensures _ _))
+    let s = d .before .before .before .before .before .before .before .before in (
+      still (d .store-granule .ensures) (s .pre .0),
+      (
+        λ l e. climbed arm _ _ _ _ l (sym (m .fuse-descriptors .ensures) ∙ e) .0,
+        fuse-room (s .pre .1 .1) (d .store-granule .ensures) (b .barriers .ensures _ _),
+      ),
+    )
 
 same-length : tie.Need-same-length
 same-length c =
@@ -53,7 +63,8 @@ returns c =
     let d = b .before .before .before .before .before .before in
     let w = d .before .before .before in
     let s = w .before .before .before .before .before in
-    grant (s .args .q) _ (m .fuse-descriptors .result) (w .set-gpi .ensures) (d .store-granule .ensures) (b .barriers .ensures _ _) (m .fuse-descriptors .ensures) (f .fuse .ensures) (c .answer-of .ensures)
+    grant arm (s .args .q .unit) (targetOf (s .args .q)) _ (m .fuse-descriptors .result) (w .set-gpi .ensures) (d .store-granule .ensures)
+    (b .barriers .ensures _ _) (m .fuse-descriptors .ensures) (f .fuse .ensures) (c .answer-of .ensures)
 
 pub set-granule-spec : {M : Type 1} → statement M
 set-granule-spec =

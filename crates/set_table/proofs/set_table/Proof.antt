@@ -1,15 +1,16 @@
 -- `set_table::set_table` meets its contract: an invalid entry changes nothing; a contiguous one is broken up first.
 -- Assumes nothing.
-use mathlib.Core.Path.{sym, ap, _∙_}
+use mathlib.Core.Path.{refl, sym, ap, _∙_}
 use native.Mathlib.Omega.{arith}
 use borrow.Author.Needs.{needs}
-use Rattle.gpi.specs.Gpi.{num}
-use Rattle.gpi.specs.Size.{bytesOf}
-use Rattle.l1.specs.Arm.{validOf}
-use Rattle.stores.proofs.Events.{less}
-use Rattle.stores.proofs.Places.{still}
+use Rattle.l1.specs.Arm.{arm, levelOf, validOf, sizeOf}
+use Rattle.l1.proofs.Arm.{arm-laws, level-lt}
+use Rattle.stores.specs.Done.{fresh}
+use Rattle.stores.proofs.Events.{none, less}
+use Rattle.set_table.specs.Table.{targetOf}
+use Rattle.set_table.proofs.Places.{still}
 use Rattle.set_table.proofs.Breaks.{grant-room}
-use Rattle.set_table.proofs.Sets.{finish, granules-done, contiguous-is, invalid-made}
+use Rattle.set_table.proofs.Sets.{finish, granules-done, contiguous-is, size-is, gpi-is, bytes-are}
 use Rattle.set_table.proofs.set_table.Statement.{statement}
 use Rattle.set_table.proofs.set_table.Tie as tie
 
@@ -26,7 +27,10 @@ set-granule-requires c κs =
     let b = c .before .before .before .before .before .before in
     let h = b .before .before .before .before in
     let s = h .before .before .before .before .before .before in
-    (still (b .break-up .ensures) (s .pre .0), (s .pre .1 .0, grant-room (s .pre .0) (less 13 _ 8 _ (s .pre .1 .1) (omega arith) (omega arith)) (h .h .given .0 .1 .0) (s .pre .1 .1) (num (h .h .given .0 .0)) (s .args .q .address .0) (bytesOf (h .h .given .0 .1 .0)) (b .break-up .ensures)))
+    let z = h .h .given .0 .1 .0 in (
+      still (b .break-up .ensures) (s .pre .0),
+      (s .pre .1 .0, grant-room arm (s .args .q .unit) (levelOf z) (level-lt z) _ _ (s .pre .1 .1) _ _ (b .break-up .ensures)),
+    )
 
 enum-told : tie.Need-enum-told
 enum-told c = search needs
@@ -56,9 +60,13 @@ returns c =
     let h = b .before .before .before .before in
     let l = h .before .before in
     let s = l .before .before .before .before in
+    let q = s .args .q in
+    let z = h .h .given .0 .1 .0 in
     let e = sym (l .l1-entry .ensures) ∙ h .h .given .1 in
-    finish (s .args .q) _ _ (s .pre .0 .index) (s .pre .0 .least) (ap validOf e)
-    (rw (contiguous-is (s .args .q) (s .args .table .now) (s .args .log .now) (s .pre .0 .index) (s .pre .0 .least) (ap validOf e) (h .h .given .0 .0) (h .h .given .0 .1 .0) e) at (b .break-up .ensures)) (g .set-granule .ensures)
+    let w = contiguous-is arm (q .unit) (s .args .table .now) (targetOf q) _ _ (gpi-is _ _ z e) (size-is _ _ z e) in
+    rw (ap validOf e)
+    (finish arm arm-laws (q .unit) (s .pre .0 .least) (targetOf q) (s .pre .0 .index) (rw (← bytes-are z, w) at (b .break-up .ensures))
+    (g .set-granule .ensures))
 
 same-length-3 : tie.Need-same-length-3
 same-length-3 c = c .before .before .before .before .set-granule2 .kept .0
@@ -73,13 +81,15 @@ returns-2 c =
     let l = n .before .before in
     let s = l .before .before .before .before in
     let e = sym (l .l1-entry .ensures) ∙ n .enum-told .given .1 in
-    finish (s .args .q) _ _ (s .pre .0 .index) (s .pre .0 .least) (ap validOf e)
-    (granules-done (s .args .q) _ _ (s .pre .0 .index) (s .pre .0 .least) (ap validOf e) e) (g .set-granule2 .ensures)
+    let q = s .args .q in
+    rw (ap validOf e)
+    (finish arm arm-laws (q .unit) (s .pre .0 .least) (targetOf q) (s .pre .0 .index)
+    (granules-done arm (q .unit) _ (targetOf q) _ _ (ap sizeOf e)) (g .set-granule2 .ensures))
 
 returns-3 : tie.Need-returns-3
 returns-3 c =
     let l = c .before .before in
-    invalid-made (l .before .before .before .before .args .q) _ _ (sym (l .l1-entry .ensures) ∙ c .enum-told2 .given .1)
+    rw (ap validOf (sym (l .l1-entry .ensures) ∙ c .enum-told2 .given .1)) record { tally = fresh; done = none _ _ _ _; answer = refl }
 
 pub set-table-spec : {M : Type 1} → statement M
 set-table-spec =

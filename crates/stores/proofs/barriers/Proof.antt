@@ -5,7 +5,7 @@ use Prim.Native.Nat.{ℕ, _+_}
 use native.Mathlib.Nat.{add-zero}
 use native.Mathlib.Omega.{arith}
 use Rattle.theory.specs.Stores.{apply}
-use Rattle.theory.specs.Events.{dsb-oshst, tlbi, dsb-osh}
+use Rattle.theory.specs.Events.{barrier, dsb-oshst, tlbi, dsb-osh}
 use Rattle.stores.specs.declared.Tally.{Tally}
 use Rattle.stores.proofs.Events.{one, after}
 use borrow.Author.Needs.{needs}
@@ -23,9 +23,9 @@ returns c o table =
     let second = third .before .before .before .before in
     let first = second .before .before .before .before in
     let t = first .before .before .before .args .t in
-    after (one o dsb-oshst _ _ _ _ t (more t 1) tt refl (first .log-record .ensures) refl (sym (add-zero _)))
-    (after (one o (tlbi _ _) _ _ _ _ (more t 1) (more t 2) tt refl (second .log-record2 .ensures) (omega arith) (sym (add-zero _)))
-    (one o dsb-osh _ _ _ _ (more t 2) (more t 3) tt refl (third .log-record3 .ensures) (omega arith) (sym (add-zero _))))
+    after (one o (barrier dsb-oshst _ _) _ _ _ _ t (more t 1) tt refl (first .log-record .ensures) refl (sym (add-zero _)))
+    (after (one o (barrier tlbi _ _) _ _ _ _ (more t 1) (more t 2) tt refl (second .log-record2 .ensures) (omega arith) (sym (add-zero _)))
+    (one o (barrier dsb-osh _ _) _ _ _ _ (more t 2) (more t 3) tt refl (third .log-record3 .ensures) (omega arith) (sym (add-zero _))))
 
 pub barriers-spec : {M : Type 1} → statement M
 barriers-spec =

@@ -13,7 +13,8 @@ use Rattle.stores.proofs.fill_descs.Statement.{statement}
 use Rattle.stores.proofs.fill_descs.Tie as tie
 
 abbrev Inv-loop : tie.InvT-loop
-Inv-loop table₀ log t offset at count word k₀ table k = (k ≤ count) × (table ≡ apply table₀ (fill at k word)) × (length table ≡ length table₀)
+Inv-loop table₀ log t offset at count word k₀ table k =
+    (k ≤ count) × (table ≡ apply table₀ (fill at k word)) × (length table ≡ length table₀)
 
 abbrev μ-loop : tie.MeasureT-loop
 μ-loop table₀ log t offset at count word k₀ table k = count - k
@@ -40,8 +41,8 @@ returns-2 : tie.Need-returns-2 Inv-loop μ-loop
 returns-2 c =
     let r = c .before .before .before in
     let l = r .before .before .before in
-    fill-done _ _ _ _ _ _ _ _ _ _ (omega arith) (pos-of-ne-zero (l .before .if1 .left)) (l .loop .k) (omega arith) (omega arith) (l .loop .inv .1)
-    (r .log-record .ensures) refl refl
+    fill-done _ _ _ _ _ _ _ _ _ _ (omega arith) (pos-of-ne-zero (l .before .if1 .left)) (l .loop .k) (omega arith) (omega arith)
+    (l .loop .inv .1) (r .log-record .ensures) refl refl
 
 pub fill-descs-spec : {M : Type 1} → statement M
 fill-descs-spec =

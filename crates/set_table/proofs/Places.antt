@@ -1,4 +1,4 @@
--- Where ranges lie: each range around the index is in the 512 MB range, and how a range is cut at the part that holds the index.
+-- Where the ranges of a set lie, in the crate `set_table`: each range around the index is in the 512 MB range.
 -- Assumes nothing.
 use mathlib.Core.Path.{_≡_}
 use mathlib.Core.List.{List}
@@ -9,9 +9,10 @@ use lib.ListN.{length}
 use Rattle.theory.specs.Normal.{span, base}
 use Rattle.theory.proofs.Ranges.{span-pos, base-hi}
 use Rattle.theory.specs.Events.{Event}
 use Rattle.stores.specs.declared.Tally.{Tally}
-use Rattle.stores.specs.Done.{Done, Room, Placed}
+use Rattle.stores.specs.Done.{Done, Room}
 use Rattle.stores.proofs.Events.{kept-table}
+use Rattle.set_table.specs.Inner.{Placed}
 
 -- each level's range around i ends within the largest
 level-in : (u i l : ℕ) → l < 3 → base (span u l) i + span u l ≤ base (span u 2) i + span u 2
@@ -53,7 +54,13 @@ lies {t} {i} {u} p l n h e =
 pub still : {o i u : ℕ} {es : List Event} {t t′ l l′ : List ℕ} {a b : Tally} → Done o es t t′ l l′ a b → Placed t i u → Placed t′ i u
 still d p =
     let e = kept-table d in
-    record { least = p .least; most = p .most; index = omega (arith, e, p .index); inside = omega (arith, e, p .inside); small = omega (arith, e, p .small) }
+    record {
+      least = p .least;
+      most = p .most;
+      index = omega (arith, e, p .index);
+      inside = omega (arith, e, p .inside);
+      small = omega (arith, e, p .small);
+    }
 
 -- what a fill asks
 abbrev pub Fills : List ℕ → List ℕ → ℕ → Tally → ℕ → ℕ → Type 0
