@@ -1,77 +1,106 @@
 -- The order of refusals, link by link: what the definition says where a test is met and those before it are not, and what holds of a call that
 -- was let through.
 -- Assumes nothing.
-use mathlib.Core.Path.{_≡_, ap}
+use mathlib.Core.Path.{_≡_, ap, _∙_}
 use mathlib.Core.Bool.{Bool, true, false, cond}
 use mathlib.Core.List.{List}
-use Prim.Native.Nat.{ℕ, _-_, _*_, _/_, _%_, _≤_, _<_, _^_}
+use Prim.Native.Nat.{ℕ, _*_, _/_, _%_, _<_, _^_}
+use native.Mathlib.Nat.{lt-of-lt-of-le}
 use native.Mathlib.Omega.{arith}
-use borrow.Author.Tests.{lt-ltb, le-ltb, le-leb, lt-leb}
-use lib.Dec.{eqb}
+use borrow.Author.Tests.{le-ltb, lt-leb, ltb-false, leb-false}
+use lib.Dec.{eqb, ltb, leb}
 use lib.ListN.{length, getD}
-use Rattle.gpi.specs.declared.Gpi.{Gpi}
 use Rattle.gpi.specs.declared.Nibble.{Nibble}
 use Rattle.gpi.specs.declared.Nibble.the-variants.{Known, Reserved}
 use Rattle.gpi.specs.Gpi.{gpiAt}
 use Rattle.pa.specs.declared.PA.{PA}
 use Rattle.pa.specs.Pa.{pa}
-use Rattle.l0.specs.declared.L0Entry.the-variants.{Block as BlockWord, Table as TableWord, Invalid}
+use Rattle.l0.specs.declared.L0Entry.{L0Entry}
+use Rattle.l0.specs.declared.L0Entry.the-variants.{Table as TableWord, Invalid}
 use Rattle.l0.specs.L0.{l0Of, blockOf}
 use Rattle.config.specs.declared.Widths.{Widths}
+use Rattle.config.specs.declared.Configured.the-variants.{Ok}
+use Rattle.config.specs.Fields.{configuredOf}
 use Rattle.config.specs.Index.{l0Entries, l0Index, l1Words}
+use Rattle.config.proofs.Bounds.{listed-widths}
+use Rattle.config.proofs.Geometry.{l0-in}
 use Rattle.resolve.specs.declared.Ask.{Ask}
-use Rattle.resolve.specs.declared.Refusal.the-variants.{FewL0Words, BadArena, ShortLog, InvalidRequest, InvalidL0Entry, OutsideArena}
-use Rattle.resolve.specs.declared.Place.the-variants.{No, Block, Table}
+use Rattle.resolve.specs.declared.Refusal.the-variants.{FewL0Words, BadArena, ShortLog, InvalidRequest, OutsideArena}
+use Rattle.resolve.specs.declared.Place.the-variants.{No, Table}
 use Rattle.resolve.specs.Refusals.{arenaBad, logShort, gpiBad, outside}
-use Rattle.resolve.specs.Place.{siteOf, entered, located}
+use Rattle.resolve.specs.Place.{siteOf, located, placeOf}
 use Rattle.resolve.specs.Sited.{Passed}
+use Rattle.resolve.specs.Inner.{onward}
 
--- ---- one lemma for each return, the earlier tests not met
+-- ---- the tests before the L0 word, as they came out: the configuration, 3, 4, 5, the address and the GPI
 
-module _ (q : Ask) (l : List ℕ) (w : Widths) where
-  pub few-words : length l < l0Entries w → No FewL0Words ≡ located q l w
+pub record Asked (q : Ask) (l : List ℕ) (w : Widths) (a b d f g : Bool) : Type 0 where
+  pub taken : configuredOf (q .config) ≡ Ok w
+  pub few : ltb (length l) (l0Entries w) ≡ a
+  pub arena : arenaBad (q .base .0) (q .words) ≡ b
+  pub log : logShort (q .call) ≡ d
+  pub address : leb (2 ^ (w .pps)) (q .address .0) ≡ f
+  pub gpi : gpiBad (q .config) (q .call) ≡ g
+
+module _ {q : Ask} {l : List ℕ} {w : Widths} {a b d f g : Bool} (k : Asked q l w a b d f g) where
+  order :
+      placeOf q l
+      ≡ cond a (No FewL0Words) (cond b (No BadArena) (cond d (No ShortLog) (cond f (No InvalidRequest) (cond g (No InvalidRequest)
+      (onward q w (l0Of (getD l (l0Index w (q .address .0)) 0)))))))
+  unfolding located placeOf
+  order = rw (k .taken, k .few, k .arena, k .log, k .address, k .gpi)
+
+  -- one lemma for each return: the test is met, the earlier ones are not
+
+  pub few-words : a ≡ true → No FewL0Words ≡ placeOf q l
+  few-words x = rw (order, x)
+
+  pub bad-arena : a ≡ false → b ≡ true → No BadArena ≡ placeOf q l
+  bad-arena x y = rw (order, x, y)
+
+  pub short-log : a ≡ false → b ≡ false → d ≡ true → No ShortLog ≡ placeOf q l
+  short-log x y z = rw (order, x, y, z)
+
+  pub bad-address : a ≡ false → b ≡ false → d ≡ false → f ≡ true → No InvalidRequest ≡ placeOf q l
+  bad-address x y z u = rw (order, x, y, z, u)
+
+  pub bad-gpi : a ≡ false → b ≡ false → d ≡ false → f ≡ false → g ≡ true → No InvalidRequest ≡ placeOf q l
+  bad-gpi x y z u v = rw (order, x, y, z, u, v)
+
+  pub none-met : a ≡ false → b ≡ false → d ≡ false → f ≡ false → g ≡ false → Passed q l w
+  none-met x y z u v =
+      record {
+        listed = listed-widths (q .config) w (k .taken);
+        enough = ltb-false _ _ (k .few ∙ x);
+        arena = k .arena ∙ y;
+        long = k .log ∙ z;
+        below = leb-false _ _ (k .address ∙ u);
+        gpi = k .gpi ∙ v;
+      }
+
+-- ---- all of these let through: the L0 word decides
+
+module _ (q : Ask) (l : List ℕ) (w : Widths) (p : Passed q l w) where
+  pub through : located q l w ≡ onward q w (l0Of (getD l (l0Index w (q .address .0)) 0))
   unfolding located
-  few-words h = rw (lt-ltb (length l) (l0Entries w) h)
+  through = rw (le-ltb (length l) (l0Entries w) (p .enough), p .arena, p .long, lt-leb (2 ^ (w .pps)) (q .address .0) (p .below), p .gpi)
 
-  module _ (a : l0Entries w ≤ length l) where
-    pub bad-arena : arenaBad (q .base .0) (q .words) ≡ true → No BadArena ≡ located q l w
-    unfolding located
-    bad-arena h = rw (le-ltb (length l) (l0Entries w) a, h)
+  module _ (i : ℕ) (h : i ≡ l0Index w (q .address .0)) where
+    pub l0-below : i < length l
+    l0-below = rw h (lt-of-lt-of-le (l0-in w (p .listed) _) (p .enough))
 
-    module _ (b : arenaBad (q .base .0) (q .words) ≡ false) where
-      pub short-log : logShort (q .call) ≡ true → No ShortLog ≡ located q l w
-      unfolding located
-      short-log h = rw (le-ltb (length l) (l0Entries w) a, b, h)
+    pub entered-at : (e : L0Entry) → configuredOf (q .config) ≡ Ok w → e ≡ l0Of (getD l i 0) → onward q w e ≡ placeOf q l
+    unfolding placeOf
+    entered-at e o f = rw (f, o, through, h)
 
-      module _ (d : logShort (q .call) ≡ false) where
-        pub bad-address : 2 ^ (w .pps) ≤ q .address .0 → No InvalidRequest ≡ located q l w
-        unfolding located
-        bad-address h = rw (le-ltb (length l) (l0Entries w) a, b, d, le-leb (2 ^ (w .pps)) (q .address .0) h)
+-- one lemma for each return of what it says
 
-        pub bad-gpi : q .address .0 < 2 ^ (w .pps) → gpiBad (q .config) (q .call) ≡ true → No InvalidRequest ≡ located q l w
-        unfolding located
-        bad-gpi e h = rw (le-ltb (length l) (l0Entries w) a, b, d, lt-leb (2 ^ (w .pps)) (q .address .0) e, h)
+module _ (q : Ask) (w : Widths) (e : L0Entry) (a : PA) (h : e ≡ TableWord a) where
+  pub not-inside : outside (q .base .0) (q .words) (a .0) (l1Words w) ≡ true → No OutsideArena ≡ onward q w e
+  not-inside o = rw (h, o)
 
-  -- all of these let through: the L0 word decides
-  module _ (p : Passed q l w) where
-    pub through :
-        located q l w
-        ≡ entered (l0Of (getD l (l0Index w (q .address .0)) 0)) (λ a. cond (outside (q .base .0) (q .words) a (l1Words w)) (No OutsideArena) (Table (siteOf q w a)))
-    unfolding located
-    through = rw (le-ltb (length l) (l0Entries w) (p .enough), p .arena, p .long, lt-leb (2 ^ (w .pps)) (q .address .0) (p .below), p .gpi)
-
-    pub block : (g : Gpi) → l0Of (getD l (l0Index w (q .address .0)) 0) ≡ BlockWord g → Block g ≡ located q l w
-    block g e = rw (through, e)
-
-    pub bad-entry : l0Of (getD l (l0Index w (q .address .0)) 0) ≡ Invalid → No InvalidL0Entry ≡ located q l w
-    bad-entry e = rw (through, e)
-
-    module _ (a : PA) (e : l0Of (getD l (l0Index w (q .address .0)) 0) ≡ TableWord a) where
-      pub not-inside : outside (q .base .0) (q .words) (a .0) (l1Words w) ≡ true → No OutsideArena ≡ located q l w
-      not-inside h = rw (through, e, h)
-
-      pub table : outside (q .base .0) (q .words) (a .0) (l1Words w) ≡ false → Table (siteOf q w (a .0)) ≡ located q l w
-      table h = rw (through, e, h)
+  pub table : outside (q .base .0) (q .words) (a .0) (l1Words w) ≡ false → Table (siteOf q w (a .0)) ≡ onward q w e
+  table o = rw (h, o)
 
 -- ---- what holds of an L0 table's address: bits 12 to 51
 

@@ -29,16 +29,16 @@ use Rattle.config.specs.Index.{l0Entries, l0Index, l1Words, l1Index, sizeWords}
 use Rattle.config.proofs.Bounds.{listed-widths}
 use Rattle.config.proofs.Geometry.{l0-in, l1-in, granule-in, l1-most, words-2-most, words-least, words-32, words-512, regions, region-in}
 use Rattle.resolve.specs.declared.Ask.{Ask}
-use Rattle.resolve.specs.declared.Call.the-variants.{Set}
+use Rattle.resolve.specs.declared.Call.the-variants.{Plain, Set}
 use Rattle.resolve.specs.declared.Refusal.the-variants.{FewL0Words, BadArena, ShortLog, InvalidRequest, OutsideArena}
 use Rattle.resolve.specs.declared.Site.{Site}
 use Rattle.resolve.specs.declared.Place.{Place}
 use Rattle.resolve.specs.declared.Place.the-variants.{No, Block, Table}
 use Rattle.resolve.specs.Refusals.{arenaBad, logShort, gpiBad, outside}
-use Rattle.resolve.specs.Place.{siteOf, elsewhere, tableOf, configured, entered, located, placeOf}
+use Rattle.resolve.specs.Place.{siteOf, asks, tableOf, configured, entered, located, placeOf}
 use Rattle.resolve.specs.Sited.{Sited, Passed, Resolved}
 use Rattle.resolve.proofs.Arena.{arena-fine, inside, not-outside}
-use Rattle.resolve.proofs.Chain.{none, through, table, table-address}
+use Rattle.resolve.proofs.Chain.{Asked, none-met, none, through, entered-at, table-address}
 
 -- the words of 512 MB, as the theory of tables counts them
 span-512 : (w : Widths) → Listed w → sizeWords w MB512 ≡ span (sizeWords w MB2) 2
@@ -92,12 +92,13 @@ links false false false false true r e = none (cc)
 links false false false false false r e = (refl, refl, refl, refl, refl)
 
 module _ (q : Ask) (l : List ℕ) (w : Widths) where
-  passed : Listed w → found (located q l w) ≡ true → Passed q l w
+  passed : configuredOf (q .config) ≡ Ok w → found (located q l w) ≡ true → Passed q l w
   unfolding located
-  passed h e =
-      let k =
+  passed o e =
+      let k : Asked q l w _ _ _ _ _ = record { taken = o; few = refl; arena = refl; log = refl; address = refl; gpi = refl } in
+      let f =
       links (ltb (length l) (l0Entries w)) (arenaBad (q .base .0) (q .words)) (logShort (q .call)) (leb (2 ^ (w .pps)) (q .address .0)) (gpiBad (q .config) (q .call)) _ e in
-      record { listed = h; enough = ltb-false _ _ (k .0); arena = k .1; long = k .2; below = leb-false _ _ (k .3); gpi = k .4 }
+      none-met k (f .0) (f .1) (f .2) (f .3) (f .4)
 
   -- ---- a place in a table
 
@@ -108,7 +109,7 @@ module _ (q : Ask) (l : List ℕ) (w : Widths) where
       h = listed-widths (q .config) w o
 
       p : Passed q l w
-      p = passed h (ap found e)
+      p = passed o (ap found e)
 
       last : (a : PA) → l0Of (getD l (l0Index w (q .address .0)) 0) ≡ TableWord a → (t : Bool) → outside (q .base .0) (q .words) (a .0) (l1Words w) ≡ t
           → cond t (No OutsideArena) (Table (siteOf q w (a .0))) ≡ Table s → Resolved q l w s
@@ -152,15 +153,16 @@ table-word A s i h = getD-take (s .words) (drop (s .start) A) i 0 h ∙ getD-dro
 -- ---- another address of the same L0 entry lies in the same table, whatever else the call that found it asked
 
 pub neighbour : (q : Ask) (l : List ℕ) (w : Widths) (s : Site) (x : ℕ) → Resolved q l w s → x < 2 ^ (w .pps) → l0Index w x ≡ l0Index w (q .address .0)
-    → placeOf (elsewhere q x) l ≡ Table (siteOf (elsewhere q x) w (q .base .0 + 8 * s .start))
+    → let y = asks (q .config) (q .words) (q .base .0) Plain x in placeOf y l ≡ Table (siteOf y w (q .base .0 + 8 * s .start))
 unfolding placeOf siteOf
 neighbour q l w s x r h e =
     let p = r .passed in
-    let k : Passed (elsewhere q x) l w = record { listed = p .listed; enough = p .enough; arena = p .arena; long = refl; below = h; gpi = refl } in
+    let y = asks (q .config) (q .words) (q .base .0) Plain x in
+    let k : Passed y l w = record { listed = p .listed; enough = p .enough; arena = p .arena; long = refl; below = h; gpi = refl } in
     let n : s .words ≡ l1Words w = ap (λ (t : Site). t .words) (r .site) in
     let f = r .sited .fits in
     let o = not-outside (q .base .0) (q .words) (q .base .0 + 8 * s .start) (l1Words w) (omega arith) (omega arith) in
-    rw (r .configured) (sym (table (elsewhere q x) l w k (pa (q .base .0 + 8 * s .start)) (rw e (r .entry)) o))
+    rw (sym (entered-at y l w k (l0Index w x) refl (TableWord (pa (q .base .0 + 8 * s .start))) (r .configured) (sym (rw e (r .entry)))), o)
 
 -- ---- "surplus lent words are not read": whatever stands behind the entries
 

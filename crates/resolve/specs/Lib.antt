@@ -1,3 +1,4 @@
 pub mod Place
 pub mod Sited
 pub mod Refusals
+pub mod Inner

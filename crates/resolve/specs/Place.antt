@@ -18,11 +18,16 @@ use Rattle.config.specs.Fields.{configuredOf}
 use Rattle.config.specs.Index.{l0Entries, l0Index, l1Words, l1Index, granuleIndex, granuleBytes, sizeWords}
 use Rattle.resolve.specs.Refusals.{arenaBad, logShort, gpiBad, outside}
 use Rattle.resolve.specs.declared.Refusal.the-variants.{InvalidConfiguration, GptNotInitialized, FewL0Words, BadArena, ShortLog, InvalidRequest, InvalidL0Entry, OutsideArena}
-use Rattle.resolve.specs.declared.Call.the-variants.{Plain}
+use Rattle.resolve.specs.declared.Call.{Call}
 use Rattle.resolve.specs.declared.Ask.{Ask}
 use Rattle.resolve.specs.declared.Site.{Site}
 use Rattle.resolve.specs.declared.Place.{Place}
 use Rattle.resolve.specs.declared.Place.the-variants.{No, Block, Table}
+
+-- ---- what a call asks: n words of the arena from b, the call, the address x
+
+abbrev pub asks : Config → ℕ → ℕ → Call → ℕ → Ask
+asks c n b call x = record { config = c; words = n; base = pa b; address = pa x; call = call }
 
 -- ---- the place of an address in the table that starts at a
 
@@ -36,10 +41,6 @@ siteOf q w a =
       unit = sizeWords w MB2;
       grain = granuleBytes w;
     }
-
--- the same things lent, asked of another address by a call that is no set
-abbrev pub elsewhere : Ask → ℕ → Ask
-elsewhere q x = record { config = q .config; words = q .words; base = q .base; address = pa x; call = Plain }
 
 -- the L1 table: these words of the arena
 abbrev pub tableOf : Site → List ℕ → List ℕ
@@ -82,7 +83,3 @@ located q l w =
 -- where an address lies, for every input: refused, in a block, or in a table; l are the lent L0 words
 unfoldable pub placeOf : Ask → List ℕ → Place
 placeOf q l = configured (configuredOf (q .config)) (located q l)
-
--- what a call that is no set asks: n words from b, the address x
-abbrev pub seeking : Config → ℕ → ℕ → ℕ → Ask
-seeking c n b x = record { config = c; words = n; base = pa b; address = pa x; call = Plain }

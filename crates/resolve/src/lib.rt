@@ -5,8 +5,9 @@ ghost use mathlib.Core.Path.{_≡_};
 ghost use mathlib.Core.Bool.{false};
 ghost use Prim.Native.Nat.{_≤_, _<_, _^_};
 ghost use Rattle.resolve.specs.Refusals.{refusalNumber, arenaBad, logShort, gpiBad, outside};
-ghost use Rattle.config.specs.Fields.{Listed};
-ghost use Rattle.resolve.specs.Place.{siteOf, located, placeOf, seeking};
+ghost use Rattle.config.specs.Fields.{configuredOf, Listed};
+ghost use Rattle.resolve.specs.Place.{siteOf, placeOf, asks};
+ghost use Rattle.resolve.specs.Inner.{Told, Entry, onward};
 ghost use Rattle.resolve.specs.declared.Call.the-variants.{Plain};
 use config::Config;
 use config::Configured;
@@ -149,35 +150,60 @@ fn site_at(q: Ask, w: Widths, a: PA) -> Site
     }
 }
 
-// From refusal 3 on: each test refuses, or the next goes on.
-fn locate(l0: &[u64], q: Ask, w: Widths) -> Place
-    requires { ⌜ Listed w ⌝ }
-    ensures { λ r. ⌜ r ≡ located q (now (l0 .entry)) w ⌝ }
+// What a call meets before its L0 word is read: the widths to read it by, or the first refusal.
+enum Admitted {
+    Ok(Widths),
+    Refused(Refusal),
+}
+
+// The refusals 1 to 6 in their order; n are the lent L0 words. The tests are asked first and then judged in their order: a test that is called
+// behind several others counts as rare, and the compiler would leave its call standing in a lookup.
+fn admit(d: Configured, n: usize, q: Ask) -> Admitted
+    requires { ⌜ d ≡ configuredOf (q .config) ⌝ }
+    ensures { λ r. ⌜ Told q n r ⌝ }
 {
-    let c = q.config;
-    let base = q.base;
-    let address = q.address;
-    let call = q.call;
-    if (l0.len() as u64) < config::l0_entries(w) {
-        return Place::No(Refusal::FewL0Words);
+    match d {
+        Configured::Ok(w) => {
+            let address = q.address;
+            let call = q.call;
+            let few = (n as u64) < config::l0_entries(w);
+            let bad = arena_bad(q.base, q.words);
+            let short = log_short(call);
+            let high = config::pow2(w.pps) <= address.0;
+            let gpi = gpi_bad(q.config, call);
+            if few {
+                return Admitted::Refused(Refusal::FewL0Words);
+            }
+            if bad {
+                return Admitted::Refused(Refusal::BadArena);
+            }
+            if short {
+                return Admitted::Refused(Refusal::ShortLog);
+            }
+            if high {
+                return Admitted::Refused(Refusal::InvalidRequest);
+            }
+            if gpi {
+                return Admitted::Refused(Refusal::InvalidRequest);
+            }
+            Admitted::Ok(w)
+        }
+        Configured::InvalidConfiguration => Admitted::Refused(Refusal::InvalidConfiguration),
+        Configured::GptNotInitialized => Admitted::Refused(Refusal::GptNotInitialized),
     }
-    if arena_bad(base, q.words) {
-        return Place::No(Refusal::BadArena);
-    }
-    if log_short(call) {
-        return Place::No(Refusal::ShortLog);
-    }
-    if config::pow2(w.pps) <= address.0 {
-        return Place::No(Refusal::InvalidRequest);
-    }
-    if gpi_bad(c, call) {
-        return Place::No(Refusal::InvalidRequest);
-    }
-    let i = config::l0_resolve(w, address);
-    match l0::l0_entry(l0[i]) {
+}
+
+// The refusals 7 and 8, of what the L0 word says: from there a block, or a table's place.
+fn enter(e: L0Entry, q: Ask, w: Widths) -> Place
+    requires { ⌜ Entry e ⌝ }
+    requires { ⌜ arenaBad (q .base .0) (q .words) ≡ false ⌝ }
+    requires { ⌜ Listed w ⌝ }
+    ensures { λ r. ⌜ r ≡ onward q w e ⌝ }
+{
+    match e {
         L0Entry::Block(g) => Place::Block(g),
         L0Entry::Table(a) => {
-            if is_outside(base, q.words, a, config::l1_words(w)) {
+            if is_outside(q.base, q.words, a, config::l1_words(w)) {
                 return Place::No(Refusal::OutsideArena);
             }
             Place::Table(site_at(q, w, a))
@@ -190,48 +216,19 @@ fn locate(l0: &[u64], q: Ask, w: Widths) -> Place
 pub fn resolve(l0: &[u64], q: Ask) -> Place
     ensures { λ r. ⌜ r ≡ placeOf q (now (l0 .entry)) ⌝ }
 {
-    let c = q.config;
-    match config::configure(c) {
-        Configured::Ok(w) => locate(l0, q, w),
-        Configured::InvalidConfiguration => Place::No(Refusal::InvalidConfiguration),
-        Configured::GptNotInitialized => Place::No(Refusal::GptNotInitialized),
-    }
-}
-
-// As `locate`, for a call that is no set: neither a log nor a GPI is asked about.
-fn seek(l0: &[u64], q: Ask, w: Widths) -> Place
-    requires { ⌜ Listed w ⌝ }
-    requires { ⌜ q .call ≡ Plain ⌝ }
-    ensures { λ r. ⌜ r ≡ located q (now (l0 .entry)) w ⌝ }
-{
-    let base = q.base;
-    let x = q.address;
-    if (l0.len() as u64) < config::l0_entries(w) {
-        return Place::No(Refusal::FewL0Words);
-    }
-    if arena_bad(base, q.words) {
-        return Place::No(Refusal::BadArena);
-    }
-    if config::pow2(w.pps) <= x.0 {
-        return Place::No(Refusal::InvalidRequest);
-    }
-    let i = config::l0_resolve(w, x);
-    match l0::l0_entry(l0[i]) {
-        L0Entry::Block(g) => Place::Block(g),
-        L0Entry::Table(a) => {
-            if is_outside(base, q.words, a, config::l1_words(w)) {
-                return Place::No(Refusal::OutsideArena);
-            }
-            Place::Table(site_at(q, w, a))
+    match admit(config::configure(q.config), l0.len(), q) {
+        Admitted::Ok(w) => {
+            let i = config::l0_resolve(w, q.address);
+            enter(l0::l0_entry(l0[i]), q, w)
         }
-        L0Entry::Invalid => Place::No(Refusal::InvalidL0Entry),
+        Admitted::Refused(r) => Place::No(r),
     }
 }
 
 // As `resolve`, for a lookup and for the dump's walk. In the C interface a lookup is its one caller, so that the compiler lays it in there: that is
 // then without a call and without a place in memory, which is what makes it no slower than the Rust's.
 pub fn find(l0: &[u64], c: Config, words: usize, base: PA, address: PA) -> Place
-    ensures { λ r. ⌜ r ≡ placeOf (seeking c words (base .0) (address .0)) (now (l0 .entry)) ⌝ }
+    ensures { λ r. ⌜ r ≡ placeOf (asks c words (base .0) Plain (address .0)) (now (l0 .entry)) ⌝ }
 {
     let q = Ask {
         config: c,
@@ -240,11 +237,11 @@ pub fn find(l0: &[u64], c: Config, words: usize, base: PA, address: PA) -> Place
         address,
         call: Call::Plain,
     };
-    match config::configure(c) {
-        Configured::Ok(w) => seek(l0, q, w),
-        Configured::InvalidConfiguration => Place::No(Refusal::InvalidConfiguration),
-        Configured::GptNotInitialized => {
-            return Place::No(Refusal::GptNotInitialized);
+    match admit(config::configure(c), l0.len(), q) {
+        Admitted::Ok(w) => {
+            let i = config::l0_resolve(w, address);
+            enter(l0::l0_entry(l0[i]), q, w)
         }
+        Admitted::Refused(r) => Place::No(r),
     }
 }
