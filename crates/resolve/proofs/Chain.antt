@@ -5,11 +5,10 @@ use mathlib.Core.Path.{_≡_, ap, _∙_}
 use mathlib.Core.Bool.{Bool, true, false, cond}
 use mathlib.Core.List.{List}
 use Prim.Native.Nat.{ℕ, _*_, _/_, _%_, _<_, _^_}
-use native.Mathlib.Nat.{lt-of-lt-of-le}
 use native.Mathlib.Omega.{arith}
 use borrow.Author.Tests.{le-ltb, lt-leb, ltb-false, leb-false}
 use lib.Dec.{eqb, ltb, leb}
-use lib.ListN.{length, getD}
+use lib.ListN.{length}
 use Rattle.gpi.specs.declared.Nibble.{Nibble}
 use Rattle.gpi.specs.declared.Nibble.the-variants.{Known, Reserved}
 use Rattle.gpi.specs.Gpi.{gpiAt}
@@ -21,16 +20,15 @@ use Rattle.l0.specs.L0.{l0Of, blockOf}
 use Rattle.config.specs.declared.Widths.{Widths}
 use Rattle.config.specs.declared.Configured.the-variants.{Ok}
 use Rattle.config.specs.Fields.{configuredOf}
-use Rattle.config.specs.Index.{l0Entries, l0Index, l1Words}
+use Rattle.config.specs.Index.{l0Entries, l1Words}
 use Rattle.config.proofs.Bounds.{listed-widths}
-use Rattle.config.proofs.Geometry.{l0-in}
 use Rattle.resolve.specs.declared.Ask.{Ask}
 use Rattle.resolve.specs.declared.Refusal.the-variants.{FewL0Words, BadArena, ShortLog, InvalidRequest, OutsideArena}
 use Rattle.resolve.specs.declared.Place.the-variants.{No, Table}
 use Rattle.resolve.specs.Refusals.{arenaBad, logShort, gpiBad, outside}
 use Rattle.resolve.specs.Place.{siteOf, located, placeOf}
 use Rattle.resolve.specs.Sited.{Passed}
-use Rattle.resolve.specs.Inner.{onward}
+use Rattle.resolve.specs.Inner.{wordOf, onward}
 
 -- ---- the tests before the L0 word, as they came out: the configuration, 3, 4, 5, the address and the GPI
 
@@ -46,7 +44,7 @@ module _ {q : Ask} {l : List ℕ} {w : Widths} {a b d f g : Bool} (k : Asked q l
   order :
       placeOf q l
       ≡ cond a (No FewL0Words) (cond b (No BadArena) (cond d (No ShortLog) (cond f (No InvalidRequest) (cond g (No InvalidRequest)
-      (onward q w (l0Of (getD l (l0Index w (q .address .0)) 0)))))))
+      (onward q w (wordOf q l w))))))
   unfolding located placeOf
   order = rw (k .taken, k .few, k .arena, k .log, k .address, k .gpi)
 
@@ -81,17 +79,13 @@ module _ {q : Ask} {l : List ℕ} {w : Widths} {a b d f g : Bool} (k : Asked q l
 -- ---- all of these let through: the L0 word decides
 
 module _ (q : Ask) (l : List ℕ) (w : Widths) (p : Passed q l w) where
-  pub through : located q l w ≡ onward q w (l0Of (getD l (l0Index w (q .address .0)) 0))
+  pub through : located q l w ≡ onward q w (wordOf q l w)
   unfolding located
   through = rw (le-ltb (length l) (l0Entries w) (p .enough), p .arena, p .long, lt-leb (2 ^ (w .pps)) (q .address .0) (p .below), p .gpi)
 
-  module _ (i : ℕ) (h : i ≡ l0Index w (q .address .0)) where
-    pub l0-below : i < length l
-    l0-below = rw h (lt-of-lt-of-le (l0-in w (p .listed) _) (p .enough))
-
-    pub entered-at : (e : L0Entry) → configuredOf (q .config) ≡ Ok w → e ≡ l0Of (getD l i 0) → onward q w e ≡ placeOf q l
-    unfolding placeOf
-    entered-at e o f = rw (f, o, through, h)
+  pub entered-at : (e : L0Entry) → configuredOf (q .config) ≡ Ok w → e ≡ wordOf q l w → onward q w e ≡ placeOf q l
+  unfolding placeOf
+  entered-at e o f = rw (f, o, through)
 
 -- one lemma for each return of what it says
 

@@ -162,7 +162,7 @@ neighbour q l w s x r h e =
     let n : s .words ≡ l1Words w = ap (λ (t : Site). t .words) (r .site) in
     let f = r .sited .fits in
     let o = not-outside (q .base .0) (q .words) (q .base .0 + 8 * s .start) (l1Words w) (omega arith) (omega arith) in
-    rw (sym (entered-at y l w k (l0Index w x) refl (TableWord (pa (q .base .0 + 8 * s .start))) (r .configured) (sym (rw e (r .entry)))), o)
+    rw (sym (entered-at y l w k (TableWord (pa (q .base .0 + 8 * s .start))) (r .configured) (sym (rw e (r .entry)))), o)
 
 -- ---- "surplus lent words are not read": whatever stands behind the entries
 

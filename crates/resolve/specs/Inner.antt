@@ -4,13 +4,13 @@ use mathlib.Core.Path.{_≡_}
 use mathlib.Core.Bool.{cond}
 use mathlib.Core.List.{List}
 use Prim.Native.Nat.{ℕ}
-use lib.ListN.{length}
+use lib.ListN.{length, getD}
 use Rattle.l0.specs.declared.L0Entry.{L0Entry}
 use Rattle.l0.specs.L0.{l0Of}
 use Rattle.config.specs.declared.Widths.{Widths}
 use Rattle.config.specs.declared.Configured.the-variants.{Ok}
 use Rattle.config.specs.Fields.{configuredOf}
-use Rattle.config.specs.Index.{l1Words}
+use Rattle.config.specs.Index.{l0Index, l1Words}
 use Rattle.resolve.specs.declared.Ask.{Ask}
 use Rattle.resolve.specs.declared.Admitted.{Admitted}
 use Rattle.resolve.specs.declared.Admitted.the-variants.{Ok as Let, Refused}
@@ -29,6 +29,10 @@ Tells q l (Refused r) = No r ≡ placeOf q l
 -- the tests ask only how many words these are
 abbrev pub Told : Ask → ℕ → Admitted → Type 0
 Told q n r = (l : List ℕ) → length l ≡ n → Tells q l r
+
+-- what the L0 word of the address says
+abbrev pub wordOf : Ask → List ℕ → Widths → L0Entry
+wordOf q l w = l0Of (getD l (l0Index w (q .address .0)) 0)
 
 -- what some L0 word says
 abbrev pub Entry : L0Entry → Type 0

@@ -7,7 +7,8 @@ ghost use Prim.Native.Nat.{_≤_, _<_, _^_};
 ghost use Rattle.resolve.specs.Refusals.{refusalNumber, arenaBad, logShort, gpiBad, outside};
 ghost use Rattle.config.specs.Fields.{configuredOf, Listed};
 ghost use Rattle.resolve.specs.Place.{siteOf, placeOf, asks};
-ghost use Rattle.resolve.specs.Inner.{Told, Entry, onward};
+ghost use Rattle.resolve.specs.Sited.{Passed};
+ghost use Rattle.resolve.specs.Inner.{Told, Entry, wordOf, onward};
 ghost use Rattle.resolve.specs.declared.Call.the-variants.{Plain};
 use config::Config;
 use config::Configured;
@@ -193,6 +194,15 @@ fn admit(d: Configured, n: usize, q: Ask) -> Admitted
     }
 }
 
+// What the L0 word of an address says.
+fn l0_word(l0: &[u64], q: Ask, w: Widths) -> L0Entry
+    requires { ⌜ Passed q (now l0) w ⌝ }
+    ensures { λ r. ⌜ r ≡ wordOf q (now (l0 .entry)) w ⌝ }
+{
+    let i = config::l0_resolve(w, q.address);
+    l0::l0_entry(l0[i])
+}
+
 // The refusals 7 and 8, of what the L0 word says: from there a block, or a table's place.
 fn enter(e: L0Entry, q: Ask, w: Widths) -> Place
     requires { ⌜ Entry e ⌝ }
@@ -217,10 +227,7 @@ pub fn resolve(l0: &[u64], q: Ask) -> Place
     ensures { λ r. ⌜ r ≡ placeOf q (now (l0 .entry)) ⌝ }
 {
     match admit(config::configure(q.config), l0.len(), q) {
-        Admitted::Ok(w) => {
-            let i = config::l0_resolve(w, q.address);
-            enter(l0::l0_entry(l0[i]), q, w)
-        }
+        Admitted::Ok(w) => enter(l0_word(l0, q, w), q, w),
         Admitted::Refused(r) => Place::No(r),
     }
 }
@@ -238,10 +245,7 @@ pub fn find(l0: &[u64], c: Config, words: usize, base: PA, address: PA) -> Place
         call: Call::Plain,
     };
     match admit(config::configure(c), l0.len(), q) {
-        Admitted::Ok(w) => {
-            let i = config::l0_resolve(w, address);
-            enter(l0::l0_entry(l0[i]), q, w)
-        }
+        Admitted::Ok(w) => enter(l0_word(l0, q, w), q, w),
         Admitted::Refused(r) => Place::No(r),
     }
 }
