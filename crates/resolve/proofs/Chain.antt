@@ -1,5 +1,5 @@
--- The order of refusals, link by link: what the definition says where a test is met and those before it are not, and what holds of a call that
--- was let through.
+-- Crate resolve. The order of refusals, link by link: what the definition says where a test is met and those before it are not, and what holds of
+-- a call that met none.
 -- Assumes nothing.
 use mathlib.Core.Path.{_≡_, ap, _∙_}
 use mathlib.Core.Bool.{Bool, true, false, cond}
@@ -24,7 +24,7 @@ use Rattle.config.specs.Index.{l0Entries, l1Words}
 use Rattle.config.proofs.Bounds.{listed-widths}
 use Rattle.resolve.specs.declared.Ask.{Ask}
 use Rattle.resolve.specs.declared.Refusal.the-variants.{FewL0Words, BadArena, ShortLog, InvalidRequest, OutsideArena}
-use Rattle.resolve.specs.declared.Place.the-variants.{No, Table}
+use Rattle.resolve.specs.declared.Place.the-variants.{Refused, Table}
 use Rattle.resolve.specs.Refusals.{arenaBad, logShort, gpiBad, outside}
 use Rattle.resolve.specs.Place.{siteOf, located, placeOf}
 use Rattle.resolve.specs.Sited.{Passed}
@@ -43,26 +43,26 @@ pub record Asked (q : Ask) (l : List ℕ) (w : Widths) (a b d f g : Bool) : Type
 module _ {q : Ask} {l : List ℕ} {w : Widths} {a b d f g : Bool} (k : Asked q l w a b d f g) where
   order :
       placeOf q l
-      ≡ cond a (No FewL0Words) (cond b (No BadArena) (cond d (No ShortLog) (cond f (No InvalidRequest) (cond g (No InvalidRequest)
-      (onward q w (wordOf q l w))))))
+      ≡ cond a (Refused FewL0Words) (cond b (Refused BadArena) (cond d (Refused ShortLog)
+      (cond f (Refused InvalidRequest) (cond g (Refused InvalidRequest) (onward q w (wordOf q l w))))))
   unfolding located placeOf
   order = rw (k .taken, k .few, k .arena, k .log, k .address, k .gpi)
 
   -- one lemma for each return: the test is met, the earlier ones are not
 
-  pub few-words : a ≡ true → No FewL0Words ≡ placeOf q l
+  pub few-words : a ≡ true → Refused FewL0Words ≡ placeOf q l
   few-words x = rw (order, x)
 
-  pub bad-arena : a ≡ false → b ≡ true → No BadArena ≡ placeOf q l
+  pub bad-arena : a ≡ false → b ≡ true → Refused BadArena ≡ placeOf q l
   bad-arena x y = rw (order, x, y)
 
-  pub short-log : a ≡ false → b ≡ false → d ≡ true → No ShortLog ≡ placeOf q l
+  pub short-log : a ≡ false → b ≡ false → d ≡ true → Refused ShortLog ≡ placeOf q l
   short-log x y z = rw (order, x, y, z)
 
-  pub bad-address : a ≡ false → b ≡ false → d ≡ false → f ≡ true → No InvalidRequest ≡ placeOf q l
+  pub bad-address : a ≡ false → b ≡ false → d ≡ false → f ≡ true → Refused InvalidRequest ≡ placeOf q l
   bad-address x y z u = rw (order, x, y, z, u)
 
-  pub bad-gpi : a ≡ false → b ≡ false → d ≡ false → f ≡ false → g ≡ true → No InvalidRequest ≡ placeOf q l
+  pub bad-gpi : a ≡ false → b ≡ false → d ≡ false → f ≡ false → g ≡ true → Refused InvalidRequest ≡ placeOf q l
   bad-gpi x y z u v = rw (order, x, y, z, u, v)
 
   pub none-met : a ≡ false → b ≡ false → d ≡ false → f ≡ false → g ≡ false → Passed q l w
@@ -79,18 +79,16 @@ module _ {q : Ask} {l : List ℕ} {w : Widths} {a b d f g : Bool} (k : Asked q l
 -- ---- all of these let through: the L0 word decides
 
 module _ (q : Ask) (l : List ℕ) (w : Widths) (p : Passed q l w) where
-  pub through : located q l w ≡ onward q w (wordOf q l w)
-  unfolding located
-  through = rw (le-ltb (length l) (l0Entries w) (p .enough), p .arena, p .long, lt-leb (2 ^ (w .pps)) (q .address .0) (p .below), p .gpi)
-
   pub entered-at : (e : L0Entry) → configuredOf (q .config) ≡ Ok w → e ≡ wordOf q l w → onward q w e ≡ placeOf q l
-  unfolding placeOf
-  entered-at e o f = rw (f, o, through)
+  entered-at e o f =
+      let k : Asked q l w false false false false false =
+      record { taken = o; few = le-ltb _ _ (p .enough); arena = p .arena; log = p .long; address = lt-leb _ _ (p .below); gpi = p .gpi } in
+      rw (f, order k)
 
--- one lemma for each return of what it says
+-- ---- what it says of a table: the test of 8
 
 module _ (q : Ask) (w : Widths) (e : L0Entry) (a : PA) (h : e ≡ TableWord a) where
-  pub not-inside : outside (q .base .0) (q .words) (a .0) (l1Words w) ≡ true → No OutsideArena ≡ onward q w e
+  pub not-inside : outside (q .base .0) (q .words) (a .0) (l1Words w) ≡ true → Refused OutsideArena ≡ onward q w e
   not-inside o = rw (h, o)
 
   pub table : outside (q .base .0) (q .words) (a .0) (l1Words w) ≡ false → Table (siteOf q w (a .0)) ≡ onward q w e

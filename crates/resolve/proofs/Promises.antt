@@ -30,15 +30,17 @@ use Rattle.config.proofs.Bounds.{listed-widths}
 use Rattle.config.proofs.Geometry.{l0-in, l1-in, granule-in, l1-most, words-2-most, words-least, words-32, words-512, regions, region-in}
 use Rattle.resolve.specs.declared.Ask.{Ask}
 use Rattle.resolve.specs.declared.Call.the-variants.{Plain, Set}
-use Rattle.resolve.specs.declared.Refusal.the-variants.{FewL0Words, BadArena, ShortLog, InvalidRequest, OutsideArena}
+use Rattle.resolve.specs.declared.Refusal.{Refusal}
+use Rattle.resolve.specs.declared.Refusal.the-variants.{OutsideArena}
 use Rattle.resolve.specs.declared.Site.{Site}
 use Rattle.resolve.specs.declared.Place.{Place}
-use Rattle.resolve.specs.declared.Place.the-variants.{No, Block, Table}
+use Rattle.resolve.specs.declared.Place.the-variants.{Refused, Block, Table}
 use Rattle.resolve.specs.Refusals.{arenaBad, logShort, gpiBad, outside}
-use Rattle.resolve.specs.Place.{siteOf, asks, tableOf, configured, entered, located, placeOf}
+use Rattle.resolve.specs.Place.{siteOf, asks, tableOf, configured, located, placeOf}
 use Rattle.resolve.specs.Sited.{Sited, Passed, Resolved}
+use Rattle.resolve.specs.Inner.{wordOf, onward}
 use Rattle.resolve.proofs.Arena.{arena-fine, inside, not-outside}
-use Rattle.resolve.proofs.Chain.{Asked, none-met, none, through, entered-at, table-address}
+use Rattle.resolve.proofs.Chain.{Asked, few-words, bad-arena, short-log, bad-address, bad-gpi, none-met, none, entered-at, table-address}
 
 -- the words of 512 MB, as the theory of tables counts them
 span-512 : (w : Widths) → Listed w → sizeWords w MB512 ≡ span (sizeWords w MB2) 2
@@ -77,33 +79,29 @@ module _ (q : Ask) (w : Widths) (a : ℕ) (h : Listed w)
 -- ---- a call that isn't refused met no test
 
 abbrev found : Place → Bool
-found (No r) = false
+found (Refused r) = false
 found (Block g) = true
 found (Table s) = true
 
-links : (a b d f g : Bool) (r : Place)
-    → found (cond a (No FewL0Words) (cond b (No BadArena) (cond d (No ShortLog) (cond f (No InvalidRequest) (cond g (No InvalidRequest) r))))) ≡ true
-    → (a ≡ false) × (b ≡ false) × (d ≡ false) × (f ≡ false) × (g ≡ false)
-links true b d f g r e = none (cc)
-links false true d f g r e = none (cc)
-links false false true f g r e = none (cc)
-links false false false true g r e = none (cc)
-links false false false false true r e = none (cc)
-links false false false false false r e = (refl, refl, refl, refl, refl)
+not-found : {A : Type 0} {r : Refusal} {p : Place} → Refused r ≡ p → found p ≡ true → A
+not-found h e = let z : false ≡ true = ap found h ∙ e in none (cc)
 
 module _ (q : Ask) (l : List ℕ) (w : Widths) where
-  passed : configuredOf (q .config) ≡ Ok w → found (located q l w) ≡ true → Passed q l w
-  unfolding located
-  passed o e =
-      let k : Asked q l w _ _ _ _ _ = record { taken = o; few = refl; arena = refl; log = refl; address = refl; gpi = refl } in
-      let f =
-      links (ltb (length l) (l0Entries w)) (arenaBad (q .base .0) (q .words)) (logShort (q .call)) (leb (2 ^ (w .pps)) (q .address .0)) (gpiBad (q .config) (q .call)) _ e in
-      none-met k (f .0) (f .1) (f .2) (f .3) (f .4)
+  met-none : (a b d f g : Bool) → Asked q l w a b d f g → found (placeOf q l) ≡ true → Passed q l w
+  met-none true b d f g k e = not-found (few-words k refl) e
+  met-none false true d f g k e = not-found (bad-arena k refl refl) e
+  met-none false false true f g k e = not-found (short-log k refl refl refl) e
+  met-none false false false true g k e = not-found (bad-address k refl refl refl refl) e
+  met-none false false false false true k e = not-found (bad-gpi k refl refl refl refl refl) e
+  met-none false false false false false k e = none-met k refl refl refl refl refl
+
+  passed : configuredOf (q .config) ≡ Ok w → found (placeOf q l) ≡ true → Passed q l w
+  passed o = met-none _ _ _ _ _ record { taken = o; few = refl; arena = refl; log = refl; address = refl; gpi = refl }
 
   -- ---- a place in a table
 
-  located-in : (s : Site) → configuredOf (q .config) ≡ Ok w → located q l w ≡ Table s → Resolved q l w s
-  located-in s o e = go (l0Of (getD l (l0Index w (q .address .0)) 0)) refl (sym (through q l w p) ∙ e)
+  resolved-by : (s : Site) → configuredOf (q .config) ≡ Ok w → placeOf q l ≡ Table s → Resolved q l w s
+  resolved-by s o e = go (wordOf q l w) refl (entered-at q l w p _ o refl ∙ e)
     where
       h : Listed w
       h = listed-widths (q .config) w o
@@ -111,8 +109,8 @@ module _ (q : Ask) (l : List ℕ) (w : Widths) where
       p : Passed q l w
       p = passed o (ap found e)
 
-      last : (a : PA) → l0Of (getD l (l0Index w (q .address .0)) 0) ≡ TableWord a → (t : Bool) → outside (q .base .0) (q .words) (a .0) (l1Words w) ≡ t
-          → cond t (No OutsideArena) (Table (siteOf q w (a .0))) ≡ Table s → Resolved q l w s
+      last : (a : PA) → wordOf q l w ≡ TableWord a → (t : Bool) → outside (q .base .0) (q .words) (a .0) (l1Words w) ≡ t
+          → cond t (Refused OutsideArena) (Table (siteOf q w (a .0))) ≡ Table s → Resolved q l w s
       last a f true g e = none (cc)
       last a f false g e =
           let k : siteOf q w (a .0) ≡ s = cc in
@@ -126,8 +124,7 @@ module _ (q : Ask) (l : List ℕ) (w : Widths) where
             sited = site-sited q w (a .0) h (p .arena) g;
           }
 
-      go : (t : L0Entry) → l0Of (getD l (l0Index w (q .address .0)) 0) ≡ t
-          → entered t (λ a. cond (outside (q .base .0) (q .words) a (l1Words w)) (No OutsideArena) (Table (siteOf q w a))) ≡ Table s → Resolved q l w s
+      go : (t : L0Entry) → wordOf q l w ≡ t → onward q w t ≡ Table s → Resolved q l w s
       go (BlockWord g) f e = none (cc)
       go (TableWord a) f e = last a f (outside (q .base .0) (q .words) (a .0) (l1Words w)) refl e
       go Invalid f e = none (cc)
@@ -137,9 +134,9 @@ unfolding placeOf
 resolved q l s e = go (configuredOf (q .config)) refl e
   where
     go : (t : Configured) → configuredOf (q .config) ≡ t → configured t (located q l) ≡ Table s → (w : Widths) × Resolved q l w s
-    go (Ok w) f e = (w, located-in q l w s f e)
-    go Unlisted f e = none (cc)
-    go Off f e = none (cc)
+    go (Ok w) f h = (w, resolved-by q l w s f e)
+    go Unlisted f h = none (cc)
+    go Off f h = none (cc)
 
 -- ---- the table is of its words
 

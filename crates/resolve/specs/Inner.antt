@@ -13,18 +13,18 @@ use Rattle.config.specs.Fields.{configuredOf}
 use Rattle.config.specs.Index.{l0Index, l1Words}
 use Rattle.resolve.specs.declared.Ask.{Ask}
 use Rattle.resolve.specs.declared.Admitted.{Admitted}
-use Rattle.resolve.specs.declared.Admitted.the-variants.{Ok as Let, Refused}
+use Rattle.resolve.specs.declared.Admitted.the-variants.{Ok as Admits, Refused as Refuses}
 use Rattle.resolve.specs.declared.Refusal.the-variants.{OutsideArena}
 use Rattle.resolve.specs.declared.Place.{Place}
-use Rattle.resolve.specs.declared.Place.the-variants.{No, Table}
+use Rattle.resolve.specs.declared.Place.the-variants.{Refused, Table}
 use Rattle.resolve.specs.Refusals.{outside}
 use Rattle.resolve.specs.Place.{siteOf, entered, placeOf}
 use Rattle.resolve.specs.Sited.{Passed}
 
 -- of a call that is lent the L0 words l: it passed the tests with these widths, or it is refused
 abbrev pub Tells : Ask → List ℕ → Admitted → Type 0
-Tells q l (Let w) = (configuredOf (q .config) ≡ Ok w) × Passed q l w
-Tells q l (Refused r) = No r ≡ placeOf q l
+Tells q l (Admits w) = (configuredOf (q .config) ≡ Ok w) × Passed q l w
+Tells q l (Refuses r) = Refused r ≡ placeOf q l
 
 -- the tests ask only how many words these are
 abbrev pub Told : Ask → ℕ → Admitted → Type 0
@@ -40,4 +40,4 @@ Entry e = (v : ℕ) × (l0Of v ≡ e)
 
 -- the order's end, from what the L0 word says
 abbrev pub onward : Ask → Widths → L0Entry → Place
-onward q w e = entered e (λ a. cond (outside (q .base .0) (q .words) a (l1Words w)) (No OutsideArena) (Table (siteOf q w a)))
+onward q w e = entered e (λ a. cond (outside (q .base .0) (q .words) a (l1Words w)) (Refused OutsideArena) (Table (siteOf q w a)))

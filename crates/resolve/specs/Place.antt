@@ -22,7 +22,7 @@ use Rattle.resolve.specs.declared.Call.{Call}
 use Rattle.resolve.specs.declared.Ask.{Ask}
 use Rattle.resolve.specs.declared.Site.{Site}
 use Rattle.resolve.specs.declared.Place.{Place}
-use Rattle.resolve.specs.declared.Place.the-variants.{No, Block, Table}
+use Rattle.resolve.specs.declared.Place.the-variants.{Refused, Block, Table}
 
 -- ---- what a call asks: n words of the arena from b, the call, the address x
 
@@ -51,33 +51,33 @@ tableOf s A = take (s .words) (drop (s .start) A)
 -- 1, 2, 1 in the configuration's own order
 abbrev pub configured : Configured → (Widths → Place) → Place
 configured (Ok w) next = next w
-configured Unlisted next = No InvalidConfiguration
-configured Off next = No GptNotInitialized
+configured Unlisted next = Refused InvalidConfiguration
+configured Off next = Refused GptNotInitialized
 
 -- 7: "L0 word neither valid block nor table"; what a valid block means is for the call to say
 abbrev pub entered : L0Entry → (ℕ → Place) → Place
 entered (BlockWord g) next = Block g
 entered (TableWord a) next = next (a .0)
-entered Invalid next = No InvalidL0Entry
+entered Invalid next = Refused InvalidL0Entry
 
 -- "Order: field values (1), 2, widths (1), 3, 4, 5, address (6), GPI known then supported (6), L0 word (7, or 6 for a block), 8": a test that is
 -- met refuses, else the next line goes on. Of the lent L0 words only the entry of an address below 2^PPS is read, so that surplus words are not.
 unfoldable pub located : Ask → List ℕ → Widths → Place
 located q l w =
     -- 3: "fewer L0 words than entries"
-    cond (ltb (length l) (l0Entries w)) (No FewL0Words)
+    cond (ltb (length l) (l0Entries w)) (Refused FewL0Words)
     -- 4
-    (cond (arenaBad (q .base .0) (q .words)) (No BadArena)
+    (cond (arenaBad (q .base .0) (q .words)) (Refused BadArena)
     -- 5
-    (cond (logShort (q .call)) (No ShortLog)
+    (cond (logShort (q .call)) (Refused ShortLog)
     -- 6: "address at or above 2^PPS bits"
-    (cond (leb (2 ^ (w .pps)) (q .address .0)) (No InvalidRequest)
+    (cond (leb (2 ^ (w .pps)) (q .address .0)) (Refused InvalidRequest)
     -- 6, the GPI
-    (cond (gpiBad (q .config) (q .call)) (No InvalidRequest)
+    (cond (gpiBad (q .config) (q .call)) (Refused InvalidRequest)
     -- 7
     (entered (l0Of (getD l (l0Index w (q .address .0)) 0)) (λ a.
     -- 8
-    cond (outside (q .base .0) (q .words) a (l1Words w)) (No OutsideArena)
+    cond (outside (q .base .0) (q .words) a (l1Words w)) (Refused OutsideArena)
     (Table (siteOf q w a))))))))
 
 -- where an address lies, for every input: refused, in a block, or in a table; l are the lent L0 words

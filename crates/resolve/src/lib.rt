@@ -33,7 +33,7 @@ pub enum Refusal {
 }
 
 // The paper's number of a refusal.
-pub fn number(r: Refusal) -> u64
+pub fn refusal_number(r: Refusal) -> u64
     ensures { λ n. ⌜ n ≡ refusalNumber r ⌝ }
 {
     match r {
@@ -129,7 +129,7 @@ pub struct Site {
 }
 
 pub enum Place {
-    No(Refusal),
+    Refused(Refusal),
     Block(Gpi),
     Table(Site),
 }
@@ -214,11 +214,11 @@ fn enter(e: L0Entry, q: Ask, w: Widths) -> Place
         L0Entry::Block(g) => Place::Block(g),
         L0Entry::Table(a) => {
             if is_outside(q.base, q.words, a, config::l1_words(w)) {
-                return Place::No(Refusal::OutsideArena);
+                return Place::Refused(Refusal::OutsideArena);
             }
             Place::Table(site_at(q, w, a))
         }
-        L0Entry::Invalid => Place::No(Refusal::InvalidL0Entry),
+        L0Entry::Invalid => Place::Refused(Refusal::InvalidL0Entry),
     }
 }
 
@@ -228,7 +228,7 @@ pub fn resolve(l0: &[u64], q: Ask) -> Place
 {
     match admit(config::configure(q.config), l0.len(), q) {
         Admitted::Ok(w) => enter(l0_word(l0, q, w), q, w),
-        Admitted::Refused(r) => Place::No(r),
+        Admitted::Refused(r) => Place::Refused(r),
     }
 }
 
@@ -246,6 +246,6 @@ pub fn find(l0: &[u64], c: Config, words: usize, base: PA, address: PA) -> Place
     };
     match admit(config::configure(c), l0.len(), q) {
         Admitted::Ok(w) => enter(l0_word(l0, q, w), q, w),
-        Admitted::Refused(r) => Place::No(r),
+        Admitted::Refused(r) => Place::Refused(r),
     }
 }

@@ -2,7 +2,7 @@
 -- Assumes nothing.
 use mathlib.Core.Path.{refl, subst, sym, _∙_}
 use borrow.Author.Needs.{needs}
-use Rattle.resolve.specs.declared.Admitted.the-variants.{Ok as Let}
+use Rattle.resolve.specs.declared.Admitted.the-variants.{Ok as Admits}
 use Rattle.resolve.specs.declared.Call.the-variants.{Plain}
 use Rattle.resolve.specs.Place.{asks}
 use Rattle.resolve.specs.Inner.{Told, Tells}
@@ -11,7 +11,7 @@ use Rattle.resolve.proofs.find.Statement.{statement}
 use Rattle.resolve.proofs.find.Tie as tie
 
 let-through : (c : tie.After-w) → let a = c .before .before .before .before .before .args in
-    Tells (asks (a .c) (a .words) (a .base .0) Plain (a .address .0)) (a .l0 .now) (Let (c .w .given .0 .0))
+    Tells (asks (a .c) (a .words) (a .base .0) Plain (a .address .0)) (a .l0 .now) (Admits (c .w .given .0 .0))
 let-through c = subst (Told _ _) (c .w .given .1) (c .before .before .admit .ensures) _ refl
 
 l0-word-requires : tie.Need-l0-word-requires
