@@ -1,4 +1,4 @@
--- Worked examples of the order and of places, by computation alone: document 01's arrangement B and its neighbours.
+-- Crate resolve. Worked examples of the order and of places, by computation alone: document 01's arrangement B and its neighbours.
 -- Assumes nothing.
 use mathlib.Core.Path.{_≡_, refl}
 use mathlib.Core.Bool.{Bool, true, false}
@@ -162,6 +162,8 @@ unfolding configuredOf arenaBad located placeOf l0Of
 surplus = (refl, refl)
 
 -- a table that starts 512 words into the arena: the ranges align to the table, the start is the arena's
-site : placeOf (asks b 1536 0x7FFF_F000 Plain 0x4123_4567) l0 ≡ Table (record { start = 512; words = 1024; index = 18; granule = 3; unit = 2; grain = 0x1_0000 })
+site :
+    placeOf (asks b 1536 0x7FFF_F000 Plain 0x4123_4567) l0
+    ≡ Table (record { start = 512; words = 1024; index = 18; granule = 3; unit = 2; grain = 0x1_0000 })
 unfolding configuredOf arenaBad outside siteOf located placeOf l0Of
 site = refl

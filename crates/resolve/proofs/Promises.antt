@@ -1,4 +1,4 @@
--- What a place promises, read off the order of refusals: callers, mend and the cut's theorem cite it.
+-- Crate resolve. What a place promises, read off the order of refusals: callers, mend and the cut's theorem cite it.
 -- Assumes nothing.
 use mathlib.Core.Path.{_≡_, refl, sym, ap, _∙_, subst}
 use mathlib.Core.Bool.{Bool, true, false, cond, not}
@@ -40,7 +40,8 @@ use Rattle.resolve.specs.Place.{siteOf, asks, tableOf, configured, locat
 use Rattle.resolve.specs.Sited.{Sited, Passed, Resolved}
 use Rattle.resolve.specs.Inner.{wordOf, onward}
 use Rattle.resolve.proofs.Arena.{arena-fine, inside, not-outside}
-use Rattle.resolve.proofs.Chain.{Asked, few-words, bad-arena, short-log, bad-address, bad-gpi, none-met, none, entered-at, table-address}
+use Rattle.resolve.proofs.Chain.{Asked, few-words, bad-arena, short-log, bad-address, bad-gpi, none-met}
+use Rattle.resolve.proofs.Chain.{none, entered-at, table-address}
 
 -- the words of 512 MB, as the theory of tables counts them
 span-512 : (w : Widths) → Listed w → sizeWords w MB512 ≡ span (sizeWords w MB2) 2
@@ -149,7 +150,8 @@ table-word A s i h = getD-take (s .words) (drop (s .start) A) i 0 h ∙ getD-dro
 
 -- ---- another address of the same L0 entry lies in the same table, whatever else the call that found it asked
 
-pub neighbour : (q : Ask) (l : List ℕ) (w : Widths) (s : Site) (x : ℕ) → Resolved q l w s → x < 2 ^ (w .pps) → l0Index w x ≡ l0Index w (q .address .0)
+pub neighbour : (q : Ask) (l : List ℕ) (w : Widths) (s : Site) (x : ℕ) → Resolved q l w s → x < 2 ^ (w .pps)
+    → l0Index w x ≡ l0Index w (q .address .0)
     → let y = asks (q .config) (q .words) (q .base .0) Plain x in placeOf y l ≡ Table (siteOf y w (q .base .0 + 8 * s .start))
 unfolding placeOf siteOf
 neighbour q l w s x r h e =
@@ -163,12 +165,14 @@ neighbour q l w s x r h e =
 
 -- ---- "surplus lent words are not read": whatever stands behind the entries
 
-pub surplus : (q : Ask) (l m : List ℕ) (w : Widths) → configuredOf (q .config) ≡ Ok w → l0Entries w ≤ length l → placeOf q (l ++ m) ≡ placeOf q l
+pub surplus : (q : Ask) (l m : List ℕ) (w : Widths) → configuredOf (q .config) ≡ Ok w → l0Entries w ≤ length l
+    → placeOf q (l ++ m) ≡ placeOf q l
 unfolding located placeOf
 surplus q l m w e h =
     let i : l0Index w (q .address .0) < length l = lt-of-lt-of-le (l0-in w (listed-widths (q .config) w e) (q .address .0)) h in
     let n : l0Entries w ≤ length (l ++ m) = rw length-append (omega arith) in
-    rw (e, le-ltb (length (l ++ m)) (l0Entries w) n, le-ltb (length l) (l0Entries w) h, List·getD-append l m 0 (l0Index w (q .address .0)) i)
+    let f = List·getD-append l m 0 (l0Index w (q .address .0)) i in
+    rw (e, le-ltb (length (l ++ m)) (l0Entries w) n, le-ltb (length l) (l0Entries w) h, f)
 
 -- ---- the GPI of a set that was let through is known and supported
 

@@ -1,4 +1,4 @@
--- Document 01, "Numbers handed back": the refusals 1 to 8 in their order, once for every call, and where an address lies.
+-- Crate resolve. Document 01, "Numbers handed back": the refusals 1 to 8 in their order, once for every call, and where an address lies.
 -- Assumes nothing: these are definitions.
 use mathlib.Core.Bool.{cond}
 use mathlib.Core.List.{List}
@@ -17,7 +17,8 @@ use Rattle.config.specs.declared.Configured.the-variants.{Ok, InvalidConfigurat
 use Rattle.config.specs.Fields.{configuredOf}
 use Rattle.config.specs.Index.{l0Entries, l0Index, l1Words, l1Index, granuleIndex, granuleBytes, sizeWords}
 use Rattle.resolve.specs.Refusals.{arenaBad, logShort, gpiBad, outside}
-use Rattle.resolve.specs.declared.Refusal.the-variants.{InvalidConfiguration, GptNotInitialized, FewL0Words, BadArena, ShortLog, InvalidRequest, InvalidL0Entry, OutsideArena}
+use Rattle.resolve.specs.declared.Refusal.the-variants.{InvalidConfiguration, GptNotInitialized, FewL0Words, BadArena, ShortLog}
+use Rattle.resolve.specs.declared.Refusal.the-variants.{InvalidRequest, InvalidL0Entry, OutsideArena}
 use Rattle.resolve.specs.declared.Call.{Call}
 use Rattle.resolve.specs.declared.Ask.{Ask}
 use Rattle.resolve.specs.declared.Site.{Site}
@@ -60,8 +61,9 @@ entered (BlockWord g) next = Block g
 entered (TableWord a) next = next (a .0)
 entered Invalid next = Refused InvalidL0Entry
 
--- "Order: field values (1), 2, widths (1), 3, 4, 5, address (6), GPI known then supported (6), L0 word (7, or 6 for a block), 8": a test that is
--- met refuses, else the next line goes on. Of the lent L0 words only the entry of an address below 2^PPS is read, so that surplus words are not.
+-- "Order: field values (1), 2, widths (1), 3, 4, 5, address (6), GPI known then supported (6), L0 word (7, or 6 for a block), 8": a test
+-- that is met refuses, else the next line goes on. Of the lent L0 words only the entry of an address below 2^PPS is read, so that surplus
+-- words are not.
 unfoldable pub located : Ask → List ℕ → Widths → Place
 located q l w =
     -- 3: "fewer L0 words than entries"

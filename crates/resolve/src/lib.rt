@@ -1,6 +1,5 @@
-// The refusals 1 to 9 and the tests behind 4, 5, 6 and 8: of the arena, the log, the GPI and the L1 table's place. From gpt.rs: `Error`,
-// `GranuleError`, and what is added to them.
-// Where an address lies: the refusals 1 to 8 in their order, once for every call. From gpt.rs: what `lookup` and `set` begin with.
+// Crate resolve. Where an address lies: the refusals 1 to 8 in their order, once for every call, and the tests behind them. From gpt.rs:
+// what `lookup` and `set` begin with, `Error` and `GranuleError`, and what is added to them.
 ghost use mathlib.Core.Path.{_≡_};
 ghost use mathlib.Core.Bool.{false};
 ghost use Prim.Native.Nat.{_≤_, _<_, _^_};
@@ -157,8 +156,8 @@ enum Admitted {
     Refused(Refusal),
 }
 
-// The refusals 1 to 6 in their order; n are the lent L0 words. The tests are asked first and then judged in their order: a test that is called
-// behind several others counts as rare, and the compiler would leave its call standing in a lookup.
+// The refusals 1 to 6 in their order; n are the lent L0 words. The tests are asked first and judged then: one that is called behind several
+// others counts as rare, and the compiler would leave its call standing in a lookup.
 fn admit(d: Configured, n: usize, q: Ask) -> Admitted
     requires { ⌜ d ≡ configuredOf (q .config) ⌝ }
     ensures { λ r. ⌜ Told q n r ⌝ }
@@ -232,8 +231,8 @@ pub fn resolve(l0: &[u64], q: Ask) -> Place
     }
 }
 
-// As `resolve`, for a lookup and for the dump's walk. In the C interface a lookup is its one caller, so that the compiler lays it in there: that is
-// then without a call and without a place in memory, which is what makes it no slower than the Rust's.
+// As `resolve`, by the same pieces, for a lookup and for the dump's walk. In the C interface a lookup is its one caller, so that the
+// compiler lays it in there: that is then without a call and without a place in memory, which is what makes it no slower than the Rust's.
 pub fn find(l0: &[u64], c: Config, words: usize, base: PA, address: PA) -> Place
     ensures { λ r. ⌜ r ≡ placeOf (asks c words (base .0) Plain (address .0)) (now (l0 .entry)) ⌝ }
 {

@@ -35,11 +35,11 @@ to-d c = to-log c .before .before .before .before .before
 
 asked : (c : tie.After-gpi-bad) (l : List ℕ) → let a = to-d c .before .before .args in length l ≡ a .n
     → Asked (a .q) l (to-d c .d .given .0 .0)
-      (ltb (a .n) (to-log c .before .before .l0-entries .result))
-      (to-log c .before .arena-bad .result)
-      (to-log c .log-short .result)
-      (leb (to-pow c .pow2 .result) (a .q .address .0))
-      (c .gpi-bad .result)
+    (ltb (a .n) (to-log c .before .before .l0-entries .result))
+    (to-log c .before .arena-bad .result)
+    (to-log c .log-short .result)
+    (leb (to-pow c .pow2 .result) (a .q .address .0))
+    (c .gpi-bad .result)
 asked c l e =
     record {
       taken = taken (to-d c);
@@ -63,7 +63,9 @@ returns-2 : tie.Need-returns-2
 returns-2 c = let k = c .before in λ l e. bad-arena (asked (k .before) l e) (k .if1 .left) (c .if2 .taken)
 
 returns-3 : tie.Need-returns-3
-returns-3 c = let j = c .before in let k = j .before in λ l e. short-log (asked (k .before) l e) (k .if1 .left) (j .if2 .left) (c .if3 .taken)
+returns-3 c =
+    let j = c .before in let k = j .before in
+    λ l e. short-log (asked (k .before) l e) (k .if1 .left) (j .if2 .left) (c .if3 .taken)
 
 returns-4 : tie.Need-returns-4
 returns-4 c =
@@ -78,7 +80,9 @@ returns-5 c =
 returns-6 : tie.Need-returns-6
 returns-6 c =
     let h = c .before in let i = h .before in let j = i .before in let k = j .before in
-    λ l e. (taken (to-d (k .before)), none-met (asked (k .before) l e) (k .if1 .left) (j .if2 .left) (i .if3 .left) (h .if4 .left) (c .if5 .left))
+    λ l e.
+    let t = asked (k .before) l e in
+    (t .taken, none-met t (k .if1 .left) (j .if2 .left) (i .if3 .left) (h .if4 .left) (c .if5 .left))
 
 returns-7 : tie.Need-returns-7
 unfolding placeOf

@@ -19,7 +19,9 @@ to-a c = c .before .before .before
 -- the test of 8, as the definition asks it
 is-outside : (c : tie.After-is-outside) → let k = to-a c in let a = k .before .before .args in
     c .is-outside .result ≡ outside (a .q .base .0) (a .q .words) (k .e2 .given .0 .0 .0) (l1Words (a .w))
-is-outside c = let a = to-a c .before .before .args in c .is-outside .ensures ∙ ap (outside (a .q .base .0) (a .q .words) _) (c .before .l1-words .ensures)
+is-outside c =
+    let a = to-a c .before .before .args in
+    c .is-outside .ensures ∙ ap (outside (a .q .base .0) (a .q .words) _) (c .before .l1-words .ensures)
 
 inner : (c : tie.Else1) → let k = to-a (c .before) in let a = k .before .before .args in
     outside (a .q .base .0) (a .q .words) (k .e2 .given .0 .0 .0) (l1Words (a .w)) ≡ false

@@ -8,7 +8,8 @@ use Rattle.resolve.proofs.Chain.{entered-at}
 use Rattle.resolve.proofs.resolve.Statement.{statement}
 use Rattle.resolve.proofs.resolve.Tie as tie
 
-let-through : (c : tie.After-w) → let a = c .before .before .before .before .before .args in Tells (a .q) (a .l0 .now) (Admits (c .w .given .0 .0))
+let-through : (c : tie.After-w) → let a = c .before .before .before .before .before .args in
+    Tells (a .q) (a .l0 .now) (Admits (c .w .given .0 .0))
 let-through c = subst (Told _ _) (c .w .given .1) (c .before .before .admit .ensures) _ refl
 
 l0-word-requires : tie.Need-l0-word-requires
