@@ -78,12 +78,11 @@ module _ {q : Ask} {l : List ℕ} {w : Widths} {a b d f g : Bool} (k : Asked q l
 
 -- ---- all of these let through: the L0 word decides
 
-module _ (q : Ask) (l : List ℕ) (w : Widths) (p : Passed q l w) where
-  pub entered-at : (e : L0Entry) → configuredOf (q .config) ≡ Ok w → e ≡ wordOf q l w → onward q w e ≡ placeOf q l
-  entered-at e o f =
-      let k : Asked q l w false false false false false =
-      record { taken = o; few = le-ltb _ _ (p .enough); arena = p .arena; log = p .long; address = lt-leb _ _ (p .below); gpi = p .gpi } in
-      rw (f, order k)
+pub through : (q : Ask) (l : List ℕ) (w : Widths) → configuredOf (q .config) ≡ Ok w → Passed q l w → placeOf q l ≡ onward q w (wordOf q l w)
+through q l w o p =
+    let k : Asked q l w false false false false false =
+    record { taken = o; few = le-ltb _ _ (p .enough); arena = p .arena; log = p .long; address = lt-leb _ _ (p .below); gpi = p .gpi } in
+    order k
 
 -- ---- what it says of a table: the test of 8
 

@@ -41,7 +41,7 @@ use Rattle.resolve.specs.Sited.{Sited, Passed, Resolved}
 use Rattle.resolve.specs.Inner.{wordOf, onward}
 use Rattle.resolve.proofs.Arena.{arena-fine, inside, not-outside}
 use Rattle.resolve.proofs.Chain.{Asked, few-words, bad-arena, short-log, bad-address, bad-gpi, none-met}
-use Rattle.resolve.proofs.Chain.{none, entered-at, table-address}
+use Rattle.resolve.proofs.Chain.{through, none, table-address}
 
 -- the words of 512 MB, as the theory of tables counts them
 span-512 : (w : Widths) → Listed w → sizeWords w MB512 ≡ span (sizeWords w MB2) 2
@@ -102,7 +102,7 @@ module _ (q : Ask) (l : List ℕ) (w : Widths) where
   -- ---- a place in a table
 
   resolved-by : (s : Site) → configuredOf (q .config) ≡ Ok w → placeOf q l ≡ Table s → Resolved q l w s
-  resolved-by s o e = go (wordOf q l w) refl (entered-at q l w p _ o refl ∙ e)
+  resolved-by s o e = go (wordOf q l w) refl (sym (through q l w o p) ∙ e)
     where
       h : Listed w
       h = listed-widths (q .config) w o
@@ -153,15 +153,16 @@ table-word A s i h = getD-take (s .words) (drop (s .start) A) i 0 h ∙ getD-dro
 pub neighbour : (q : Ask) (l : List ℕ) (w : Widths) (s : Site) (x : ℕ) → Resolved q l w s → x < 2 ^ (w .pps)
     → l0Index w x ≡ l0Index w (q .address .0)
     → let y = asks (q .config) (q .words) (q .base .0) Plain x in placeOf y l ≡ Table (siteOf y w (q .base .0 + 8 * s .start))
-unfolding placeOf siteOf
+unfolding siteOf
 neighbour q l w s x r h e =
     let p = r .passed in
     let y = asks (q .config) (q .words) (q .base .0) Plain x in
     let k : Passed y l w = record { listed = p .listed; enough = p .enough; arena = p .arena; long = refl; below = h; gpi = refl } in
     let n : s .words ≡ l1Words w = ap (λ (t : Site). t .words) (r .site) in
-    let f = r .sited .fits in
+    let g = r .sited .fits in
     let o = not-outside (q .base .0) (q .words) (q .base .0 + 8 * s .start) (l1Words w) (omega arith) (omega arith) in
-    rw (sym (entered-at y l w k (TableWord (pa (q .base .0 + 8 * s .start))) (r .configured) (sym (rw e (r .entry)))), o)
+    let f : wordOf y l w ≡ TableWord (pa (q .base .0 + 8 * s .start)) = rw e (r .entry) in
+    rw (through y l w (r .configured) k, f, o)
 
 -- ---- "surplus lent words are not read": whatever stands behind the entries
 
