@@ -49,7 +49,7 @@ pub fn pack_looked(s: Looked) -> u64
 {
     match s {
         Looked::Ok(g) => 256 * gpi::number(g),
-        Looked::Refused(r) => resolve::number(r),
+        Looked::Refused(r) => resolve::refusal_number(r),
     }
 }
 
@@ -68,7 +68,7 @@ pub fn pack_changed(a: Changed) -> u64
     match a {
         Changed::Done(t) => pack_tally(0, t),
         Changed::Stopped(t) => pack_tally(10, t),
-        Changed::Refused(r) => resolve::number(r),
+        Changed::Refused(r) => resolve::refusal_number(r),
     }
 }
 
@@ -79,7 +79,7 @@ pub fn pack_mended(m: Mended) -> u64
 {
     match m {
         Mended::Ok(n) => 65536 * n,
-        Mended::Refused(r) => resolve::number(r),
+        Mended::Refused(r) => resolve::refusal_number(r),
     }
 }
 
@@ -90,7 +90,7 @@ pub fn pack_checked(k: Checked) -> u64
     match k {
         Checked::Yes => 256,
         Checked::No => 0,
-        Checked::Refused(r) => resolve::number(r),
+        Checked::Refused(r) => resolve::refusal_number(r),
     }
 }
 

@@ -53,7 +53,7 @@ pub fn looked(name: &[u8], c: Config, arena: &[u64], address: u64) {
     word(name, address);
     match gpt::lookup(c, &l0, arena, PA(0x8000_0000), PA(address)) {
         Looked::Ok(g) => word(b": 0, GPI ", gpi::number(g)),
-        Looked::Refused(r) => word(b": ", resolve::number(r)),
+        Looked::Refused(r) => word(b": ", resolve::refusal_number(r)),
     }
     io::write_all(1, b"\n");
 }
@@ -80,7 +80,7 @@ pub fn changed(name: &[u8], arena: &mut [u64], log: &mut [u64], address: u64, gp
             word(b": 10, stores ", t.stores as u64);
             word(b", records ", t.records as u64);
         }
-        Changed::Refused(r) => word(b": ", resolve::number(r)),
+        Changed::Refused(r) => word(b": ", resolve::refusal_number(r)),
     }
     io::write_all(1, b"\n");
 }

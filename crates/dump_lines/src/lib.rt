@@ -131,7 +131,7 @@ fn name_len(a: Looked) -> usize
 {
     match a {
         Looked::Ok(g) => gpi_len(g),
-        Looked::Refused(r) => 8 + dec_len(resolve::number(r)),
+        Looked::Refused(r) => 8 + dec_len(resolve::refusal_number(r)),
     }
 }
 
@@ -141,7 +141,7 @@ fn put_name(out: &mut [u8], at: usize, a: Looked) -> usize
 {
     match a {
         Looked::Ok(g) => put_gpi(out, at, g),
-        Looked::Refused(r) => put_numbered(out, at, b"refused ", resolve::number(r)),
+        Looked::Refused(r) => put_numbered(out, at, b"refused ", resolve::refusal_number(r)),
     }
 }
 

@@ -25,7 +25,7 @@ fn code(a: Looked) -> u64
 {
     match a {
         Looked::Ok(g) => gpi::number(g),
-        Looked::Refused(r) => 16 * resolve::number(r),
+        Looked::Refused(r) => 16 * resolve::refusal_number(r),
     }
 }
 
@@ -65,7 +65,7 @@ fn piece_at(c: Config, l0: &[u64], arena: &[u64], base: PA, w: Widths, a: u64) -
     ensures { λ r. ⌜ Holds (lookupOf (lent c (now (l0 .entry)) (now (arena .entry)) (base .0))) (total w) a r ⌝ }
 {
     match resolve::find(l0, c, arena.len(), base, PA(a)) {
-        Place::No(r) => Piece {
+        Place::Refused(r) => Piece {
             answer: Looked::Refused(r),
             last: last_of(a, w.l0gptsz),
         },

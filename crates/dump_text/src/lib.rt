@@ -127,7 +127,7 @@ fn number(a: Looked) -> u64
 {
     match a {
         Looked::Ok(_) => 0,
-        Looked::Refused(r) => resolve::number(r),
+        Looked::Refused(r) => resolve::refusal_number(r),
     }
 }
 

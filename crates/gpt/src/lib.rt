@@ -64,7 +64,7 @@ pub fn lookup(c: Config, l0: &[u64], arena: &[u64], base: PA, address: PA) -> Lo
     ensures { λ r. ⌜ r ≡ lookupOf (lent c (now (l0 .entry)) (now (arena .entry)) (base .0)) (address .0) ⌝ }
 {
     match resolve::find(l0, c, arena.len(), base, address) {
-        Place::No(r) => Looked::Refused(r),
+        Place::Refused(r) => Looked::Refused(r),
         Place::Block(g) => grant(c, g, Refusal::InvalidL0Entry),
         Place::Table(s) => {
             let o = s.start;
@@ -133,7 +133,7 @@ pub fn set(
         call: Call::Set(log.len(), n),
     };
     match resolve::resolve(l0, q) {
-        Place::No(r) => Changed::Refused(r),
+        Place::Refused(r) => Changed::Refused(r),
         Place::Block(_) => Changed::Refused(Refusal::InvalidRequest),
         Place::Table(s) => match n {
             Nibble::Known(g) => set_site(arena, log, s, address, g),

@@ -42,7 +42,7 @@ fn table_named(l0: &[u64], c: Config, words: usize, base: PA, address: PA) -> Na
         call: Call::Plain,
     };
     match resolve::resolve(l0, q) {
-        Place::No(r) => Named::Refused(r),
+        Place::Refused(r) => Named::Refused(r),
         Place::Block(_) => Named::Refused(Refusal::InvalidRequest),
         Place::Table(s) => Named::At(s),
     }

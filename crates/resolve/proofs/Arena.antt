@@ -1,4 +1,4 @@
--- The arena's own tests, 4 and 8, as the code makes them: nothing is added before it is known to fit.
+-- Crate resolve. The arena's own tests, 4 and 8, as the code makes them: nothing is added before it is known to fit.
 -- Assumes nothing.
 use mathlib.Core.Path.{_≡_, refl}
 use mathlib.Core.Bool.{Bool, true, false, not, _||_}

@@ -1,77 +1,97 @@
--- The order of refusals, link by link: what the definition says where a test is met and those before it are not, and what holds of a call that
--- was let through.
+-- Crate resolve. The order of refusals, link by link: what the definition says where a test is met and those before it are not, and what
+-- holds of a call that met none.
 -- Assumes nothing.
-use mathlib.Core.Path.{_≡_, ap}
+use mathlib.Core.Path.{_≡_, ap, _∙_}
 use mathlib.Core.Bool.{Bool, true, false, cond}
 use mathlib.Core.List.{List}
-use Prim.Native.Nat.{ℕ, _-_, _*_, _/_, _%_, _≤_, _<_, _^_}
+use Prim.Native.Nat.{ℕ, _*_, _/_, _%_, _<_, _^_}
 use native.Mathlib.Omega.{arith}
-use borrow.Author.Tests.{lt-ltb, le-ltb, le-leb, lt-leb}
-use lib.Dec.{eqb}
-use lib.ListN.{length, getD}
-use Rattle.gpi.specs.declared.Gpi.{Gpi}
+use borrow.Author.Tests.{le-ltb, lt-leb, ltb-false, leb-false}
+use lib.Dec.{eqb, ltb, leb}
+use lib.ListN.{length}
 use Rattle.gpi.specs.declared.Nibble.{Nibble}
 use Rattle.gpi.specs.declared.Nibble.the-variants.{Known, Reserved}
 use Rattle.gpi.specs.Gpi.{gpiAt}
 use Rattle.pa.specs.declared.PA.{PA}
 use Rattle.pa.specs.Pa.{pa}
-use Rattle.l0.specs.declared.L0Entry.the-variants.{Block as BlockWord, Table as TableWord, Invalid}
+use Rattle.l0.specs.declared.L0Entry.{L0Entry}
+use Rattle.l0.specs.declared.L0Entry.the-variants.{Table as TableWord, Invalid}
 use Rattle.l0.specs.L0.{l0Of, blockOf}
 use Rattle.config.specs.declared.Widths.{Widths}
-use Rattle.config.specs.Index.{l0Entries, l0Index, l1Words}
+use Rattle.config.specs.declared.Configured.the-variants.{Ok}
+use Rattle.config.specs.Fields.{configuredOf}
+use Rattle.config.specs.Index.{l0Entries, l1Words}
+use Rattle.config.proofs.Bounds.{listed-widths}
 use Rattle.resolve.specs.declared.Ask.{Ask}
-use Rattle.resolve.specs.declared.Refusal.the-variants.{FewL0Words, BadArena, ShortLog, InvalidRequest, InvalidL0Entry, OutsideArena}
-use Rattle.resolve.specs.declared.Place.the-variants.{No, Block, Table}
+use Rattle.resolve.specs.declared.Refusal.the-variants.{FewL0Words, BadArena, ShortLog, InvalidRequest, OutsideArena}
+use Rattle.resolve.specs.declared.Place.the-variants.{Refused, Table}
 use Rattle.resolve.specs.Refusals.{arenaBad, logShort, gpiBad, outside}
-use Rattle.resolve.specs.Place.{siteOf, entered, located}
+use Rattle.resolve.specs.Place.{siteOf, located, placeOf}
 use Rattle.resolve.specs.Sited.{Passed}
+use Rattle.resolve.specs.Inner.{wordOf, onward}
 
--- ---- one lemma for each return, the earlier tests not met
+-- ---- the tests before the L0 word, as they came out: the configuration, 3, 4, 5, the address and the GPI
 
-module _ (q : Ask) (l : List ℕ) (w : Widths) where
-  pub few-words : length l < l0Entries w → No FewL0Words ≡ located q l w
-  unfolding located
-  few-words h = rw (lt-ltb (length l) (l0Entries w) h)
+pub record Asked (q : Ask) (l : List ℕ) (w : Widths) (a b d f g : Bool) : Type 0 where
+  pub taken : configuredOf (q .config) ≡ Ok w
+  pub few : ltb (length l) (l0Entries w) ≡ a
+  pub arena : arenaBad (q .base .0) (q .words) ≡ b
+  pub log : logShort (q .call) ≡ d
+  pub address : leb (2 ^ (w .pps)) (q .address .0) ≡ f
+  pub gpi : gpiBad (q .config) (q .call) ≡ g
 
-  module _ (a : l0Entries w ≤ length l) where
-    pub bad-arena : arenaBad (q .base .0) (q .words) ≡ true → No BadArena ≡ located q l w
-    unfolding located
-    bad-arena h = rw (le-ltb (length l) (l0Entries w) a, h)
+module _ {q : Ask} {l : List ℕ} {w : Widths} {a b d f g : Bool} (k : Asked q l w a b d f g) where
+  order :
+      placeOf q l
+      ≡ cond a (Refused FewL0Words) (cond b (Refused BadArena) (cond d (Refused ShortLog)
+      (cond f (Refused InvalidRequest) (cond g (Refused InvalidRequest) (onward q w (wordOf q l w))))))
+  unfolding located placeOf
+  order = rw (k .taken, k .few, k .arena, k .log, k .address, k .gpi)
 
-    module _ (b : arenaBad (q .base .0) (q .words) ≡ false) where
-      pub short-log : logShort (q .call) ≡ true → No ShortLog ≡ located q l w
-      unfolding located
-      short-log h = rw (le-ltb (length l) (l0Entries w) a, b, h)
+  -- one lemma for each return: the test is met, the earlier ones are not
 
-      module _ (d : logShort (q .call) ≡ false) where
-        pub bad-address : 2 ^ (w .pps) ≤ q .address .0 → No InvalidRequest ≡ located q l w
-        unfolding located
-        bad-address h = rw (le-ltb (length l) (l0Entries w) a, b, d, le-leb (2 ^ (w .pps)) (q .address .0) h)
+  pub few-words : a ≡ true → Refused FewL0Words ≡ placeOf q l
+  few-words x = rw (order, x)
 
-        pub bad-gpi : q .address .0 < 2 ^ (w .pps) → gpiBad (q .config) (q .call) ≡ true → No InvalidRequest ≡ located q l w
-        unfolding located
-        bad-gpi e h = rw (le-ltb (length l) (l0Entries w) a, b, d, lt-leb (2 ^ (w .pps)) (q .address .0) e, h)
+  pub bad-arena : a ≡ false → b ≡ true → Refused BadArena ≡ placeOf q l
+  bad-arena x y = rw (order, x, y)
 
-  -- all of these let through: the L0 word decides
-  module _ (p : Passed q l w) where
-    pub through :
-        located q l w
-        ≡ entered (l0Of (getD l (l0Index w (q .address .0)) 0)) (λ a. cond (outside (q .base .0) (q .words) a (l1Words w)) (No OutsideArena) (Table (siteOf q w a)))
-    unfolding located
-    through = rw (le-ltb (length l) (l0Entries w) (p .enough), p .arena, p .long, lt-leb (2 ^ (w .pps)) (q .address .0) (p .below), p .gpi)
+  pub short-log : a ≡ false → b ≡ false → d ≡ true → Refused ShortLog ≡ placeOf q l
+  short-log x y z = rw (order, x, y, z)
 
-    pub block : (g : Gpi) → l0Of (getD l (l0Index w (q .address .0)) 0) ≡ BlockWord g → Block g ≡ located q l w
-    block g e = rw (through, e)
+  pub bad-address : a ≡ false → b ≡ false → d ≡ false → f ≡ true → Refused InvalidRequest ≡ placeOf q l
+  bad-address x y z u = rw (order, x, y, z, u)
 
-    pub bad-entry : l0Of (getD l (l0Index w (q .address .0)) 0) ≡ Invalid → No InvalidL0Entry ≡ located q l w
-    bad-entry e = rw (through, e)
+  pub bad-gpi : a ≡ false → b ≡ false → d ≡ false → f ≡ false → g ≡ true → Refused InvalidRequest ≡ placeOf q l
+  bad-gpi x y z u v = rw (order, x, y, z, u, v)
 
-    module _ (a : PA) (e : l0Of (getD l (l0Index w (q .address .0)) 0) ≡ TableWord a) where
-      pub not-inside : outside (q .base .0) (q .words) (a .0) (l1Words w) ≡ true → No OutsideArena ≡ located q l w
-      not-inside h = rw (through, e, h)
+  pub none-met : a ≡ false → b ≡ false → d ≡ false → f ≡ false → g ≡ false → Passed q l w
+  none-met x y z u v =
+      record {
+        listed = listed-widths (q .config) w (k .taken);
+        enough = ltb-false _ _ (k .few ∙ x);
+        arena = k .arena ∙ y;
+        long = k .log ∙ z;
+        below = leb-false _ _ (k .address ∙ u);
+        gpi = k .gpi ∙ v;
+      }
 
-      pub table : outside (q .base .0) (q .words) (a .0) (l1Words w) ≡ false → Table (siteOf q w (a .0)) ≡ located q l w
-      table h = rw (through, e, h)
+-- ---- all of these let through: the L0 word decides
+
+pub through : (q : Ask) (l : List ℕ) (w : Widths) → configuredOf (q .config) ≡ Ok w → Passed q l w → placeOf q l ≡ onward q w (wordOf q l w)
+through q l w o p =
+    let k : Asked q l w false false false false false =
+    record { taken = o; few = le-ltb _ _ (p .enough); arena = p .arena; log = p .long; address = lt-leb _ _ (p .below); gpi = p .gpi } in
+    order k
+
+-- ---- what it says of a table: the test of 8
+
+module _ (q : Ask) (w : Widths) (e : L0Entry) (a : PA) (h : e ≡ TableWord a) where
+  pub not-inside : outside (q .base .0) (q .words) (a .0) (l1Words w) ≡ true → Refused OutsideArena ≡ onward q w e
+  not-inside o = rw (h, o)
+
+  pub table : outside (q .base .0) (q .words) (a .0) (l1Words w) ≡ false → Table (siteOf q w (a .0)) ≡ onward q w e
+  table o = rw (h, o)
 
 -- ---- what holds of an L0 table's address: bits 12 to 51
 

@@ -18,7 +18,7 @@ use Rattle.resolve.specs.declared.Call.{Call}
 use Rattle.resolve.specs.declared.Call.the-variants.{Plain}
 use Rattle.resolve.specs.declared.Place.the-variants.{Table}
 use Rattle.resolve.specs.declared.Site.{Site}
-use Rattle.resolve.specs.Place.{siteOf, placeOf}
+use Rattle.resolve.specs.Place.{asks, siteOf, placeOf}
 use Rattle.resolve.specs.Sited.{Sited, Resolved}
 use Rattle.resolve.specs.Lent.{Lent, over, askOf, placeFor, placed, tableIn, layIn, Names}
 use Rattle.resolve.proofs.Promises.{resolved, neighbour}
@@ -77,7 +77,7 @@ found q call x s e = (k .0, record {
     start : (q .base + 8 * s .start - q .base) / 8 ≡ s .start
     start = omega arith
 
-    same : (y : ℕ) → siteOf (record { config = q .config; words = length (q .arena); base = pa (q .base); address = pa y; call = call }) (k .0) (q .base + 8 * s .start) ≡ siteAt (k .0) s y
+    same : (y : ℕ) → siteOf (askOf q Plain y) (k .0) (q .base + 8 * s .start) ≡ siteAt (k .0) s y
     same y = rw (start, ← words, ← unit, ← grain) refl
 
 -- ---- another arena of the same length
@@ -85,7 +85,7 @@ found q call x s e = (k .0, record {
 -- of the arena only the length counts for a place
 pub over-place : (q : Lent) (A : List ℕ) → length A ≡ length (q .arena) → (call : Call) (y : ℕ) → placeFor (over q A) call y ≡ placeFor q call y
 over-place q A e call y =
-    ap (λ (n : ℕ). placeOf (record { config = q .config; words = n; base = pa (q .base); address = pa y; call = call }) (q .l0)) e
+    ap (λ (n : ℕ). placeOf (asks (q .config) n (q .base) call y) (q .l0)) e
 
 -- T is laid in the place of the table of x
 module _ {q : Lent} {x : ℕ} {w : Widths} {s : Site} (f : Found q x w s) where

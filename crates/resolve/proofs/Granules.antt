@@ -1,5 +1,5 @@
--- Two addresses lie in one granule exactly if they have the same L0 entry, the same word of its table and the same granule there. Over the
--- widths, never per granule size.
+-- Crate resolve. Two addresses lie in one granule exactly if they have the same L0 entry, the same word of its table and the same granule
+-- there. Over the widths, never per granule size.
 -- Assumes nothing.
 use mathlib.Core.Path.{_≡_, sym, ap, ap₂, _∙_}
 use Prim.Native.Nat.{ℕ, _+_, _-_, _*_, _/_, _%_, _<_, _^_}
@@ -19,7 +19,8 @@ module _ (w : Widths) (h : Listed w) where
   l1-as : (x : ℕ) → l1Index w x ≡ x / granuleBytes w / 16 % l1Words w
   l1-as x =
       let e : w .l0gptsz ≡ w .l0gptsz - (w .pgs + 4) + (w .pgs + 4) = omega arith in
-      ap (λ (k : ℕ). x % 2 ^ k / 2 ^ (w .pgs + 4)) e ∙ field x (w .l0gptsz - (w .pgs + 4)) (w .pgs + 4) ∙ ap (λ (n : ℕ). n % l1Words w) (word-as x)
+      ap (λ (k : ℕ). x % 2 ^ k / 2 ^ (w .pgs + 4)) e ∙ field x (w .l0gptsz - (w .pgs + 4)) (w .pgs + 4)
+      ∙ ap (λ (n : ℕ). n % l1Words w) (word-as x)
 
   l0-as : (x : ℕ) → x < 2 ^ (w .pps) → l0Index w x ≡ x / granuleBytes w / 16 / l1Words w
   l0-as x b =

@@ -1,9 +1,10 @@
--- The numbers of the refusals that all calls share.
+-- Crate resolve. The numbers of the refusals that all calls share.
 -- Assumes nothing.
 use Prim.Native.Nat.{_<_}
 use lib.Dec.{lit<}
 use Rattle.resolve.specs.declared.Refusal.{Refusal}
-use Rattle.resolve.specs.declared.Refusal.the-variants.{InvalidConfiguration, GptNotInitialized, FewL0Words, BadArena, ShortLog, InvalidRequest, InvalidL0Entry, OutsideArena, InvalidL1Entry}
+use Rattle.resolve.specs.declared.Refusal.the-variants.{InvalidConfiguration, GptNotInitialized, FewL0Words, BadArena, ShortLog}
+use Rattle.resolve.specs.declared.Refusal.the-variants.{InvalidRequest, InvalidL0Entry, OutsideArena, InvalidL1Entry}
 use Rattle.resolve.specs.Refusals.{refusalNumber}
 
 -- a refusal's number is neither 0 nor 10

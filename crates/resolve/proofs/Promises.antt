@@ -1,4 +1,4 @@
--- What a place promises, read off the order of refusals: callers, mend and the cut's theorem cite it.
+-- Crate resolve. What a place promises, read off the order of refusals: callers, mend and the cut's theorem cite it.
 -- Assumes nothing.
 use mathlib.Core.Path.{_≡_, refl, sym, ap, _∙_, subst}
 use mathlib.Core.Bool.{Bool, true, false, cond, not}
@@ -29,16 +29,19 @@ use Rattle.config.specs.Index.{l0Entries, l0Index, l1Words, l1Index, sizeWords}
 use Rattle.config.proofs.Bounds.{listed-widths}
 use Rattle.config.proofs.Geometry.{l0-in, l1-in, granule-in, l1-most, words-2-most, words-least, words-32, words-512, regions, region-in}
 use Rattle.resolve.specs.declared.Ask.{Ask}
-use Rattle.resolve.specs.declared.Call.the-variants.{Set}
-use Rattle.resolve.specs.declared.Refusal.the-variants.{FewL0Words, BadArena, ShortLog, InvalidRequest, OutsideArena}
+use Rattle.resolve.specs.declared.Call.the-variants.{Plain, Set}
+use Rattle.resolve.specs.declared.Refusal.{Refusal}
+use Rattle.resolve.specs.declared.Refusal.the-variants.{OutsideArena}
 use Rattle.resolve.specs.declared.Site.{Site}
 use Rattle.resolve.specs.declared.Place.{Place}
-use Rattle.resolve.specs.declared.Place.the-variants.{No, Block, Table}
+use Rattle.resolve.specs.declared.Place.the-variants.{Refused, Block, Table}
 use Rattle.resolve.specs.Refusals.{arenaBad, logShort, gpiBad, outside}
-use Rattle.resolve.specs.Place.{siteOf, elsewhere, tableOf, configured, entered, located, placeOf}
+use Rattle.resolve.specs.Place.{siteOf, asks, tableOf, configured, located, placeOf}
 use Rattle.resolve.specs.Sited.{Sited, Passed, Resolved}
+use Rattle.resolve.specs.Inner.{wordOf, onward}
 use Rattle.resolve.proofs.Arena.{arena-fine, inside, not-outside}
-use Rattle.resolve.proofs.Chain.{none, through, table, table-address}
+use Rattle.resolve.proofs.Chain.{Asked, few-words, bad-arena, short-log, bad-address, bad-gpi, none-met}
+use Rattle.resolve.proofs.Chain.{through, none, table-address}
 
 -- the words of 512 MB, as the theory of tables counts them
 span-512 : (w : Widths) → Listed w → sizeWords w MB512 ≡ span (sizeWords w MB2) 2
@@ -77,41 +80,38 @@ module _ (q : Ask) (w : Widths) (a : ℕ) (h : Listed w)
 -- ---- a call that isn't refused met no test
 
 abbrev found : Place → Bool
-found (No r) = false
+found (Refused r) = false
 found (Block g) = true
 found (Table s) = true
 
-links : (a b d f g : Bool) (r : Place)
-    → found (cond a (No FewL0Words) (cond b (No BadArena) (cond d (No ShortLog) (cond f (No InvalidRequest) (cond g (No InvalidRequest) r))))) ≡ true
-    → (a ≡ false) × (b ≡ false) × (d ≡ false) × (f ≡ false) × (g ≡ false)
-links true b d f g r e = none (cc)
-links false true d f g r e = none (cc)
-links false false true f g r e = none (cc)
-links false false false true g r e = none (cc)
-links false false false false true r e = none (cc)
-links false false false false false r e = (refl, refl, refl, refl, refl)
+not-found : {A : Type 0} {r : Refusal} {p : Place} → Refused r ≡ p → found p ≡ true → A
+not-found h e = let z : false ≡ true = ap found h ∙ e in none (cc)
 
 module _ (q : Ask) (l : List ℕ) (w : Widths) where
-  passed : Listed w → found (located q l w) ≡ true → Passed q l w
-  unfolding located
-  passed h e =
-      let k =
-      links (ltb (length l) (l0Entries w)) (arenaBad (q .base .0) (q .words)) (logShort (q .call)) (leb (2 ^ (w .pps)) (q .address .0)) (gpiBad (q .config) (q .call)) _ e in
-      record { listed = h; enough = ltb-false _ _ (k .0); arena = k .1; long = k .2; below = leb-false _ _ (k .3); gpi = k .4 }
+  met-none : (a b d f g : Bool) → Asked q l w a b d f g → found (placeOf q l) ≡ true → Passed q l w
+  met-none true b d f g k e = not-found (few-words k refl) e
+  met-none false true d f g k e = not-found (bad-arena k refl refl) e
+  met-none false false true f g k e = not-found (short-log k refl refl refl) e
+  met-none false false false true g k e = not-found (bad-address k refl refl refl refl) e
+  met-none false false false false true k e = not-found (bad-gpi k refl refl refl refl refl) e
+  met-none false false false false false k e = none-met k refl refl refl refl refl
+
+  passed : configuredOf (q .config) ≡ Ok w → found (placeOf q l) ≡ true → Passed q l w
+  passed o = met-none _ _ _ _ _ record { taken = o; few = refl; arena = refl; log = refl; address = refl; gpi = refl }
 
   -- ---- a place in a table
 
-  located-in : (s : Site) → configuredOf (q .config) ≡ Ok w → located q l w ≡ Table s → Resolved q l w s
-  located-in s o e = go (l0Of (getD l (l0Index w (q .address .0)) 0)) refl (sym (through q l w p) ∙ e)
+  resolved-by : (s : Site) → configuredOf (q .config) ≡ Ok w → placeOf q l ≡ Table s → Resolved q l w s
+  resolved-by s o e = go (wordOf q l w) refl (sym (through q l w o p) ∙ e)
     where
       h : Listed w
       h = listed-widths (q .config) w o
 
       p : Passed q l w
-      p = passed h (ap found e)
+      p = passed o (ap found e)
 
-      last : (a : PA) → l0Of (getD l (l0Index w (q .address .0)) 0) ≡ TableWord a → (t : Bool) → outside (q .base .0) (q .words) (a .0) (l1Words w) ≡ t
-          → cond t (No OutsideArena) (Table (siteOf q w (a .0))) ≡ Table s → Resolved q l w s
+      last : (a : PA) → wordOf q l w ≡ TableWord a → (t : Bool) → outside (q .base .0) (q .words) (a .0) (l1Words w) ≡ t
+          → cond t (Refused OutsideArena) (Table (siteOf q w (a .0))) ≡ Table s → Resolved q l w s
       last a f true g e = none (cc)
       last a f false g e =
           let k : siteOf q w (a .0) ≡ s = cc in
@@ -125,8 +125,7 @@ module _ (q : Ask) (l : List ℕ) (w : Widths) where
             sited = site-sited q w (a .0) h (p .arena) g;
           }
 
-      go : (t : L0Entry) → l0Of (getD l (l0Index w (q .address .0)) 0) ≡ t
-          → entered t (λ a. cond (outside (q .base .0) (q .words) a (l1Words w)) (No OutsideArena) (Table (siteOf q w a))) ≡ Table s → Resolved q l w s
+      go : (t : L0Entry) → wordOf q l w ≡ t → onward q w t ≡ Table s → Resolved q l w s
       go (BlockWord g) f e = none (cc)
       go (TableWord a) f e = last a f (outside (q .base .0) (q .words) (a .0) (l1Words w)) refl e
       go Invalid f e = none (cc)
@@ -136,9 +135,9 @@ unfolding placeOf
 resolved q l s e = go (configuredOf (q .config)) refl e
   where
     go : (t : Configured) → configuredOf (q .config) ≡ t → configured t (located q l) ≡ Table s → (w : Widths) × Resolved q l w s
-    go (Ok w) f e = (w, located-in q l w s f e)
-    go Unlisted f e = none (cc)
-    go Off f e = none (cc)
+    go (Ok w) f h = (w, resolved-by q l w s f e)
+    go Unlisted f h = none (cc)
+    go Off f h = none (cc)
 
 -- ---- the table is of its words
 
@@ -151,25 +150,30 @@ table-word A s i h = getD-take (s .words) (drop (s .start) A) i 0 h ∙ getD-dro
 
 -- ---- another address of the same L0 entry lies in the same table, whatever else the call that found it asked
 
-pub neighbour : (q : Ask) (l : List ℕ) (w : Widths) (s : Site) (x : ℕ) → Resolved q l w s → x < 2 ^ (w .pps) → l0Index w x ≡ l0Index w (q .address .0)
-    → placeOf (elsewhere q x) l ≡ Table (siteOf (elsewhere q x) w (q .base .0 + 8 * s .start))
-unfolding placeOf siteOf
+pub neighbour : (q : Ask) (l : List ℕ) (w : Widths) (s : Site) (x : ℕ) → Resolved q l w s → x < 2 ^ (w .pps)
+    → l0Index w x ≡ l0Index w (q .address .0)
+    → let y = asks (q .config) (q .words) (q .base .0) Plain x in placeOf y l ≡ Table (siteOf y w (q .base .0 + 8 * s .start))
+unfolding siteOf
 neighbour q l w s x r h e =
     let p = r .passed in
-    let k : Passed (elsewhere q x) l w = record { listed = p .listed; enough = p .enough; arena = p .arena; long = refl; below = h; gpi = refl } in
+    let y = asks (q .config) (q .words) (q .base .0) Plain x in
+    let k : Passed y l w = record { listed = p .listed; enough = p .enough; arena = p .arena; long = refl; below = h; gpi = refl } in
     let n : s .words ≡ l1Words w = ap (λ (t : Site). t .words) (r .site) in
-    let f = r .sited .fits in
+    let g = r .sited .fits in
     let o = not-outside (q .base .0) (q .words) (q .base .0 + 8 * s .start) (l1Words w) (omega arith) (omega arith) in
-    rw (r .configured) (sym (table (elsewhere q x) l w k (pa (q .base .0 + 8 * s .start)) (rw e (r .entry)) o))
+    let f : wordOf y l w ≡ TableWord (pa (q .base .0 + 8 * s .start)) = rw e (r .entry) in
+    rw (through y l w (r .configured) k, f, o)
 
 -- ---- "surplus lent words are not read": whatever stands behind the entries
 
-pub surplus : (q : Ask) (l m : List ℕ) (w : Widths) → configuredOf (q .config) ≡ Ok w → l0Entries w ≤ length l → placeOf q (l ++ m) ≡ placeOf q l
+pub surplus : (q : Ask) (l m : List ℕ) (w : Widths) → configuredOf (q .config) ≡ Ok w → l0Entries w ≤ length l
+    → placeOf q (l ++ m) ≡ placeOf q l
 unfolding located placeOf
 surplus q l m w e h =
     let i : l0Index w (q .address .0) < length l = lt-of-lt-of-le (l0-in w (listed-widths (q .config) w e) (q .address .0)) h in
     let n : l0Entries w ≤ length (l ++ m) = rw length-append (omega arith) in
-    rw (e, le-ltb (length (l ++ m)) (l0Entries w) n, le-ltb (length l) (l0Entries w) h, List·getD-append l m 0 (l0Index w (q .address .0)) i)
+    let f = List·getD-append l m 0 (l0Index w (q .address .0)) i in
+    rw (e, le-ltb (length (l ++ m)) (l0Entries w) n, le-ltb (length l) (l0Entries w) h, f)
 
 -- ---- the GPI of a set that was let through is known and supported
 

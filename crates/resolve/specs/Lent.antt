@@ -3,7 +3,6 @@ use mathlib.Core.List.{List}
 use mathlib.Core.Path.{_≡_}
 use Prim.Native.Nat.{ℕ, _<_, _^_}
 use lib.ListN.{length}
-use Rattle.pa.specs.Pa.{pa}
 use Rattle.theory.specs.Arena.{tableAt, laid}
 use Rattle.config.specs.declared.Config.{Config}
 use Rattle.config.specs.declared.Widths.{Widths}
@@ -13,7 +12,7 @@ use Rattle.resolve.specs.declared.Call.{Call}
 use Rattle.resolve.specs.declared.Call.the-variants.{Plain}
 use Rattle.resolve.specs.declared.Place.{Place}
 use Rattle.resolve.specs.declared.Site.{Site}
-use Rattle.resolve.specs.Place.{placeOf}
+use Rattle.resolve.specs.Place.{asks, placeOf}
 
 -- "Lent: L0 words; arena words of 64 bits; the arena's physical base", and the fields
 pub record Lent : Type 0 where
@@ -31,7 +30,7 @@ over q A = record { config = q .config; l0 = q .l0; arena = A; base = q .base }
 
 -- what a call asks at an address: of the arena only its length
 abbrev pub askOf : Lent → Call → ℕ → Ask
-askOf q call x = record { config = q .config; words = length (q .arena); base = pa (q .base); address = pa x; call = call }
+askOf q call x = asks (q .config) (length (q .arena)) (q .base) call x
 
 -- where the address x lies for a call; and for one that is no set
 abbrev pub placeFor : Lent → Call → ℕ → Place

@@ -3,3 +3,4 @@ pub mod Sited
 pub mod Refusals
 pub mod Lent
 pub mod B
+pub mod Inner

@@ -1,4 +1,5 @@
--- Document 01, "Numbers handed back": the refusals that all calls share, by their numbers, and the tests behind 4, 5, 6 and 8.
+-- Crate resolve. Document 01, "Numbers handed back": the refusals that all calls share, by their numbers, and the tests behind
+-- 4, 5, 6 and 8.
 -- Assumes nothing: these are definitions.
 use mathlib.Core.Bool.{Bool, true, false, not, _||_}
 use Prim.Native.Nat.{ℕ, _+_, _*_, _%_, _^_}
@@ -7,7 +8,8 @@ use Rattle.gpi.specs.declared.Nibble.the-variants.{Known, Reserved}
 use Rattle.config.specs.declared.Config.{Config}
 use Rattle.config.specs.Fields.{supportedOf}
 use Rattle.resolve.specs.declared.Refusal.{Refusal}
-use Rattle.resolve.specs.declared.Refusal.the-variants.{InvalidConfiguration, GptNotInitialized, FewL0Words, BadArena, ShortLog, InvalidRequest, InvalidL0Entry, OutsideArena, InvalidL1Entry}
+use Rattle.resolve.specs.declared.Refusal.the-variants.{InvalidConfiguration, GptNotInitialized, FewL0Words, BadArena, ShortLog}
+use Rattle.resolve.specs.declared.Refusal.the-variants.{InvalidRequest, InvalidL0Entry, OutsideArena, InvalidL1Entry}
 use Rattle.resolve.specs.declared.Call.{Call}
 use Rattle.resolve.specs.declared.Call.the-variants.{Plain, Set}
 

@@ -1,4 +1,4 @@
--- What a place in a table promises: `proofs/Chain` reads it off the order of refusals.
+-- Crate resolve. What a place in a table promises: `proofs/Promises` reads it off the order of refusals.
 -- Assumes nothing: these are definitions.
 use mathlib.Core.Path.{_≡_}
 use mathlib.Core.Bool.{false}

@@ -1,12 +1,13 @@
-// The refusals 1 to 9 and the tests behind 4, 5, 6 and 8: of the arena, the log, the GPI and the L1 table's place. From gpt.rs: `Error`,
-// `GranuleError`, and what is added to them.
-// Where an address lies: the refusals 1 to 8 in their order, once for every call. From gpt.rs: what `lookup` and `set` begin with.
+// Crate resolve. Where an address lies: the refusals 1 to 8 in their order, once for every call, and the tests behind them. From gpt.rs:
+// what `lookup` and `set` begin with, `Error` and `GranuleError`, and what is added to them.
 ghost use mathlib.Core.Path.{_≡_};
 ghost use mathlib.Core.Bool.{false};
 ghost use Prim.Native.Nat.{_≤_, _<_, _^_};
 ghost use Rattle.resolve.specs.Refusals.{refusalNumber, arenaBad, logShort, gpiBad, outside};
-ghost use Rattle.config.specs.Fields.{Listed};
-ghost use Rattle.resolve.specs.Place.{siteOf, located, placeOf, seeking};
+ghost use Rattle.config.specs.Fields.{configuredOf, Listed};
+ghost use Rattle.resolve.specs.Place.{siteOf, placeOf, asks};
+ghost use Rattle.resolve.specs.Sited.{Passed};
+ghost use Rattle.resolve.specs.Inner.{Told, Entry, wordOf, onward};
 ghost use Rattle.resolve.specs.declared.Call.the-variants.{Plain};
 use config::Config;
 use config::Configured;
@@ -31,7 +32,7 @@ pub enum Refusal {
 }
 
 // The paper's number of a refusal.
-pub fn number(r: Refusal) -> u64
+pub fn refusal_number(r: Refusal) -> u64
     ensures { λ n. ⌜ n ≡ refusalNumber r ⌝ }
 {
     match r {
@@ -127,7 +128,7 @@ pub struct Site {
 }
 
 pub enum Place {
-    No(Refusal),
+    Refused(Refusal),
     Block(Gpi),
     Table(Site),
 }
@@ -149,40 +150,74 @@ fn site_at(q: Ask, w: Widths, a: PA) -> Site
     }
 }
 
-// From refusal 3 on: each test refuses, or the next goes on.
-fn locate(l0: &[u64], q: Ask, w: Widths) -> Place
-    requires { ⌜ Listed w ⌝ }
-    ensures { λ r. ⌜ r ≡ located q (now (l0 .entry)) w ⌝ }
+// What a call meets before its L0 word is read: the widths to read it by, or the first refusal.
+enum Admitted {
+    Ok(Widths),
+    Refused(Refusal),
+}
+
+// The refusals 1 to 6 in their order; n are the lent L0 words. The tests are asked first and judged then: one that is called behind several
+// others counts as rare, and the compiler would leave its call standing in a lookup.
+fn admit(d: Configured, n: usize, q: Ask) -> Admitted
+    requires { ⌜ d ≡ configuredOf (q .config) ⌝ }
+    ensures { λ r. ⌜ Told q n r ⌝ }
 {
-    let c = q.config;
-    let base = q.base;
-    let address = q.address;
-    let call = q.call;
-    if (l0.len() as u64) < config::l0_entries(w) {
-        return Place::No(Refusal::FewL0Words);
+    match d {
+        Configured::Ok(w) => {
+            let address = q.address;
+            let call = q.call;
+            let few = (n as u64) < config::l0_entries(w);
+            let bad = arena_bad(q.base, q.words);
+            let short = log_short(call);
+            let high = config::pow2(w.pps) <= address.0;
+            let gpi = gpi_bad(q.config, call);
+            if few {
+                return Admitted::Refused(Refusal::FewL0Words);
+            }
+            if bad {
+                return Admitted::Refused(Refusal::BadArena);
+            }
+            if short {
+                return Admitted::Refused(Refusal::ShortLog);
+            }
+            if high {
+                return Admitted::Refused(Refusal::InvalidRequest);
+            }
+            if gpi {
+                return Admitted::Refused(Refusal::InvalidRequest);
+            }
+            Admitted::Ok(w)
+        }
+        Configured::InvalidConfiguration => Admitted::Refused(Refusal::InvalidConfiguration),
+        Configured::GptNotInitialized => Admitted::Refused(Refusal::GptNotInitialized),
     }
-    if arena_bad(base, q.words) {
-        return Place::No(Refusal::BadArena);
-    }
-    if log_short(call) {
-        return Place::No(Refusal::ShortLog);
-    }
-    if config::pow2(w.pps) <= address.0 {
-        return Place::No(Refusal::InvalidRequest);
-    }
-    if gpi_bad(c, call) {
-        return Place::No(Refusal::InvalidRequest);
-    }
-    let i = config::l0_resolve(w, address);
-    match l0::l0_entry(l0[i]) {
+}
+
+// What the L0 word of an address says.
+fn l0_word(l0: &[u64], q: Ask, w: Widths) -> L0Entry
+    requires { ⌜ Passed q (now l0) w ⌝ }
+    ensures { λ r. ⌜ r ≡ wordOf q (now (l0 .entry)) w ⌝ }
+{
+    let i = config::l0_resolve(w, q.address);
+    l0::l0_entry(l0[i])
+}
+
+// The refusals 7 and 8, of what the L0 word says: from there a block, or a table's place.
+fn enter(e: L0Entry, q: Ask, w: Widths) -> Place
+    requires { ⌜ Entry e ⌝ }
+    requires { ⌜ arenaBad (q .base .0) (q .words) ≡ false ⌝ }
+    requires { ⌜ Listed w ⌝ }
+    ensures { λ r. ⌜ r ≡ onward q w e ⌝ }
+{
+    match e {
         L0Entry::Block(g) => Place::Block(g),
         L0Entry::Table(a) => {
-            if is_outside(base, q.words, a, config::l1_words(w)) {
-                return Place::No(Refusal::OutsideArena);
+            if is_outside(q.base, q.words, a, config::l1_words(w)) {
+                return Place::Refused(Refusal::OutsideArena);
             }
             Place::Table(site_at(q, w, a))
         }
-        L0Entry::Invalid => Place::No(Refusal::InvalidL0Entry),
+        L0Entry::Invalid => Place::Refused(Refusal::InvalidL0Entry),
     }
 }
 
@@ -190,48 +225,16 @@ fn locate(l0: &[u64], q: Ask, w: Widths) -> Place
 pub fn resolve(l0: &[u64], q: Ask) -> Place
     ensures { λ r. ⌜ r ≡ placeOf q (now (l0 .entry)) ⌝ }
 {
-    let c = q.config;
-    match config::configure(c) {
-        Configured::Ok(w) => locate(l0, q, w),
-        Configured::InvalidConfiguration => Place::No(Refusal::InvalidConfiguration),
-        Configured::GptNotInitialized => Place::No(Refusal::GptNotInitialized),
+    match admit(config::configure(q.config), l0.len(), q) {
+        Admitted::Ok(w) => enter(l0_word(l0, q, w), q, w),
+        Admitted::Refused(r) => Place::Refused(r),
     }
 }
 
-// As `locate`, for a call that is no set: neither a log nor a GPI is asked about.
-fn seek(l0: &[u64], q: Ask, w: Widths) -> Place
-    requires { ⌜ Listed w ⌝ }
-    requires { ⌜ q .call ≡ Plain ⌝ }
-    ensures { λ r. ⌜ r ≡ located q (now (l0 .entry)) w ⌝ }
-{
-    let base = q.base;
-    let x = q.address;
-    if (l0.len() as u64) < config::l0_entries(w) {
-        return Place::No(Refusal::FewL0Words);
-    }
-    if arena_bad(base, q.words) {
-        return Place::No(Refusal::BadArena);
-    }
-    if config::pow2(w.pps) <= x.0 {
-        return Place::No(Refusal::InvalidRequest);
-    }
-    let i = config::l0_resolve(w, x);
-    match l0::l0_entry(l0[i]) {
-        L0Entry::Block(g) => Place::Block(g),
-        L0Entry::Table(a) => {
-            if is_outside(base, q.words, a, config::l1_words(w)) {
-                return Place::No(Refusal::OutsideArena);
-            }
-            Place::Table(site_at(q, w, a))
-        }
-        L0Entry::Invalid => Place::No(Refusal::InvalidL0Entry),
-    }
-}
-
-// As `resolve`, for a lookup and for the dump's walk. In the C interface a lookup is its one caller, so that the compiler lays it in there: that is
-// then without a call and without a place in memory, which is what makes it no slower than the Rust's.
+// As `resolve`, by the same pieces, for a lookup and for the dump's walk. In the C interface a lookup is its one caller, so that the
+// compiler lays it in there: that is then without a call and without a place in memory, which is what makes it no slower than the Rust's.
 pub fn find(l0: &[u64], c: Config, words: usize, base: PA, address: PA) -> Place
-    ensures { λ r. ⌜ r ≡ placeOf (seeking c words (base .0) (address .0)) (now (l0 .entry)) ⌝ }
+    ensures { λ r. ⌜ r ≡ placeOf (asks c words (base .0) Plain (address .0)) (now (l0 .entry)) ⌝ }
 {
     let q = Ask {
         config: c,
@@ -240,11 +243,8 @@ pub fn find(l0: &[u64], c: Config, words: usize, base: PA, address: PA) -> Place
         address,
         call: Call::Plain,
     };
-    match config::configure(c) {
-        Configured::Ok(w) => seek(l0, q, w),
-        Configured::InvalidConfiguration => Place::No(Refusal::InvalidConfiguration),
-        Configured::GptNotInitialized => {
-            return Place::No(Refusal::GptNotInitialized);
-        }
+    match admit(config::configure(c), l0.len(), q) {
+        Admitted::Ok(w) => enter(l0_word(l0, q, w), q, w),
+        Admitted::Refused(r) => Place::Refused(r),
     }
 }

@@ -1,39 +1,40 @@
--- `resolve::resolve` meets its contract: the configuration's refusals, then the chain.
+-- `resolve::resolve` meets its contract: what `admit` told, then the L0 word.
 -- Assumes nothing.
-use mathlib.Core.Path.{sym, _∙_}
+use mathlib.Core.Path.{refl, subst, sym, ap, _∙_}
 use borrow.Author.Needs.{needs}
-use Rattle.config.proofs.Bounds.{listed-widths}
-use Rattle.resolve.specs.Place.{placeOf}
+use Rattle.resolve.specs.declared.Admitted.the-variants.{Ok as Admits}
+use Rattle.resolve.specs.Inner.{Told, Tells, onward}
+use Rattle.resolve.proofs.Chain.{through}
 use Rattle.resolve.proofs.resolve.Statement.{statement}
 use Rattle.resolve.proofs.resolve.Tie as tie
 
-locate-requires : tie.Need-locate-requires
-locate-requires c κs = listed-widths _ _ (sym (c .before .before .before .configure .ensures) ∙ c .before .w .given .1)
+let-through : (c : tie.After-w) → let a = c .before .before .before .before .before .args in
+    Tells (a .q) (a .l0 .now) (Admits (c .w .given .0 .0))
+let-through c = subst (Told _ _) (c .w .given .1) (c .before .before .admit .ensures) _ refl
 
-enum-told : tie.Need-enum-told
-enum-told c = search needs
+l0-word-requires : tie.Need-l0-word-requires
+l0-word-requires c κs = let-through (c .before) .1
+
+enter-requires : tie.Need-enter-requires
+enter-requires c κs = let p = let-through (c .before .before) .1 in ((_, sym (c .l0-word .ensures)), (p .arena, p .listed))
 
 returns : tie.Need-returns
-unfolding placeOf
-returns c = rw (sym (c .before .before .before .before .configure .ensures) ∙ c .before .before .w .given .1) (c .locate .ensures)
+returns c =
+    let t = let-through (c .before .before .before) in
+    c .enter .ensures ∙ ap (onward _ _) (c .before .l0-word .ensures) ∙ sym (through _ _ _ (t .0) (t .1))
 
 returns-2 : tie.Need-returns-2
-unfolding placeOf
-returns-2 c = rw (sym (c .before .before .configure .ensures) ∙ c .enum-told .given .1)
-
-returns-3 : tie.Need-returns-3
-unfolding placeOf
-returns-3 c = rw (sym (c .before .before .configure .ensures) ∙ c .enum-told2 .given .1)
+returns-2 c = subst (Told _ _) (c .before .r .given .1) (c .before .before .before .admit .ensures) _ refl
 
 pub resolve-spec : {M : Type 1} → statement M
 resolve-spec =
     tie.close
     (tie.spec
     (λ c κs. search needs)
+    (λ c κs. search needs)
     (λ c. search needs)
-    locate-requires
-    enum-told
+    l0-word-requires
+    enter-requires
     (λ c. search needs)
     returns
-    returns-2
-    returns-3)
+    returns-2)
