@@ -19,7 +19,7 @@ use Rattle.gpi.specs.declared.Gpi.{Gpi}
 use Rattle.gpi.specs.declared.Gpi.the-variants.{NoAccess, SystemAgent, NonSecureProtected, NoAccess6, NoAccess7, Secure, NonSecure, Root, Realm, NonSecureOnly, Any}
 use Rattle.gpi.specs.declared.Nibble.{Nibble}
 use Rattle.gpi.specs.declared.Nibble.the-variants.{Known, Reserved}
-use Rattle.gpi.proofs.Table.{at, agree, agreed}
+use Rattle.gpi.proofs.Table.{apart, at, agree, agreed}
 
 -- ---- the table of nibbles
 
@@ -55,9 +55,7 @@ num-at n g e = go (decLt n 16)
     go : Dec (n < 16) → n ≡ num g
     go (yes l) = eqb-true n (num g) (subst (λ (x : Nibble). placed n x ≡ true) e (table n l))
     go (no l) =
-        let p : _≡_ {A = Nibble} Reserved (Known g) = sym (past n (omega arith)) ∙ e in
-        let z : _≡_ {A = ℕ} 0 1 = cc in
-        absurd (omega arith)
+        let p : _≡_ {A = Nibble} Reserved (Known g) = sym (past n (omega arith)) ∙ e in apart (cc)
 
 pub known-lt : (n : ℕ) → knownAt n ≡ true → n < 16
 known-lt n e = go (decLt n 16)
@@ -65,9 +63,7 @@ known-lt n e = go (decLt n 16)
     go : Dec (n < 16) → n < 16
     go (yes l) = l
     go (no l) =
-        let p : false ≡ true = rw (past n (omega arith)) at e in
-        let z : _≡_ {A = ℕ} 0 1 = cc in
-        absurd (omega arith)
+        let p : false ≡ true = rw (past n (omega arith)) at e in apart (cc)
 
 pub num-lt : (g : Gpi) → num g < 16
 num-lt g = known-lt (num g) (rw (gpi-num g))
@@ -78,13 +74,13 @@ named P n k f = go (gpiAt n) refl k
   where
     go : (x : Nibble) → gpiAt n ≡ x → isKnown x ≡ true → P
     go (Known g) e k = f g (num-at n g e)
-    go Reserved e k = let z : _≡_ {A = ℕ} 0 1 = cc in absurd (omega arith)
+    go Reserved e k = apart (cc)
 
 pub unnamed : (n : ℕ) → knownAt n ≡ false → gpiAt n ≡ Reserved
 unnamed n k = go (gpiAt n) k
   where
     go : (x : Nibble) → isKnown x ≡ false → x ≡ Reserved
-    go (Known g) k = let z : _≡_ {A = ℕ} 0 1 = cc in absurd (omega arith)
+    go (Known g) k = apart (cc)
     go Reserved k = refl
 
 -- ---- sizes
@@ -100,6 +96,6 @@ size-pos s = elim s [ MB2 ↦ lit< tt | MB32 ↦ lit< tt | MB512 ↦ lit< tt ]
 
 -- the next smaller size is one code below, and a sixteenth
 pub smaller-num : (s r : Size) → smallerOf s ≡ Is r → (sizeNum r + 1 ≡ sizeNum s) × (16 * bytesOf r ≡ bytesOf s)
-smaller-num MB2 r e = let z : _≡_ {A = ℕ} 0 1 = cc in absurd (omega arith)
+smaller-num MB2 r e = apart (cc)
 smaller-num MB32 r e = let p : MB2 ≡ r = cc in subst (λ (x : Size). (sizeNum x + 1 ≡ 2) × (16 * bytesOf x ≡ bytesOf MB32)) p (refl, refl)
 smaller-num MB512 r e = let p : MB32 ≡ r = cc in subst (λ (x : Size). (sizeNum x + 1 ≡ 3) × (16 * bytesOf x ≡ bytesOf MB512)) p (refl, refl)
