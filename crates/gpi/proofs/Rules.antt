@@ -1,6 +1,5 @@
--- The rule of the table of nibbles, by one computed test over its sixteen entries: an entry is the GPI whose number is its place, or the place
--- is one of the five reserved. So each GPI is found at its number and at no other. And the same of sizes.
--- Assumes nothing.
+-- Rules of `gpi`: the table of nibbles, by one computed test over its sixteen entries: an entry is the GPI whose number is its place, or
+-- the place is one of the five reserved. So each GPI is found at its number and at no other. And the same of sizes.
 use mathlib.Core.Path.{_≡_, refl, sym, _∙_, subst, ap}
 use mathlib.Core.Bool.{Bool, true, false, _||_}
 use mathlib.Core.List.{List, [], _∷_}
@@ -16,7 +15,8 @@ use Rattle.gpi.specs.declared.Size.{Size}
 use Rattle.gpi.specs.declared.Size.the-variants.{MB2, MB32, MB512}
 use Rattle.gpi.specs.declared.SizeCode.the-variants.{Is, None}
 use Rattle.gpi.specs.declared.Gpi.{Gpi}
-use Rattle.gpi.specs.declared.Gpi.the-variants.{NoAccess, SystemAgent, NonSecureProtected, NoAccess6, NoAccess7, Secure, NonSecure, Root, Realm, NonSecureOnly, Any}
+use Rattle.gpi.specs.declared.Gpi.the-variants.{NoAccess, SystemAgent, NonSecureProtected, NoAccess6, NoAccess7, Secure, NonSecure}
+use Rattle.gpi.specs.declared.Gpi.the-variants.{Root, Realm, NonSecureOnly, Any}
 use Rattle.gpi.specs.declared.Nibble.{Nibble}
 use Rattle.gpi.specs.declared.Nibble.the-variants.{Known, Reserved}
 use Rattle.gpi.proofs.Table.{apart, at, agree, agreed}
@@ -46,7 +46,19 @@ valid-at k h = agreed (getD valid k false) (knownAt k) (at (λ j. agree (getD va
 -- its number finds it
 pub gpi-num : (g : Gpi) → gpiAt (num g) ≡ Known g
 gpi-num g =
-    elim g [ NoAccess ↦ refl | SystemAgent ↦ refl | NonSecureProtected ↦ refl | NoAccess6 ↦ refl | NoAccess7 ↦ refl | Secure ↦ refl | NonSecure ↦ refl | Root ↦ refl | Realm ↦ refl | NonSecureOnly ↦ refl | Any ↦ refl ]
+    elim g [
+      | NoAccess ↦ refl
+      | SystemAgent ↦ refl
+      | NonSecureProtected ↦ refl
+      | NoAccess6 ↦ refl
+      | NoAccess7 ↦ refl
+      | Secure ↦ refl
+      | NonSecure ↦ refl
+      | Root ↦ refl
+      | Realm ↦ refl
+      | NonSecureOnly ↦ refl
+      | Any ↦ refl
+    ]
 
 -- and no other number does
 pub num-at : (n : ℕ) (g : Gpi) → gpiAt n ≡ Known g → n ≡ num g

@@ -1,5 +1,4 @@
--- A rule over the first numbers, proved at each of them by one test that antt computes.
--- Assumes nothing.
+-- For the tables of `gpi`: a rule over the first numbers, proved at each of them by one test that antt computes.
 use mathlib.Core.Path.{_≡_, refl, sym, subst}
 use mathlib.Core.Bool.{Bool, true, false, _&&_}
 use Prim.Native.Nat.{ℕ, zero, suc, _<_}

@@ -1,5 +1,5 @@
--- `flat` and the granule store: what a word reads, and that two valid words are read alike exactly if their `flat` is one word.
--- Assumes nothing.
+-- Laws of `l1`: `flat` and the granule store, what a word reads, and that two valid words are read alike exactly if their `flat` is one
+-- word.
 use mathlib.Core.Path.{_≡_, refl, sym, ap, _∙_, subst}
 use mathlib.Core.Bool.{Bool, true, false}
 use Prim.Native.Nat.{ℕ, _%_, _^_, _<_}
@@ -89,7 +89,8 @@ num-reads n g e = go (gpiAt n) refl e
     go Reserved p q = apart (cc)
 
 pub repeated-reads : (g : Gpi) (i : ℕ) → i < 16 → readAt (repeated (num g)) i ≡ Known g
-repeated-reads g i h = ap (entryReads (repeated (num g)) i) (l1-repeated g) ∙ ap numReads (nib-repeated (num g) i (num-lt g) h) ∙ reads-num g
+repeated-reads g i h =
+    ap (entryReads (repeated (num g)) i) (l1-repeated g) ∙ ap numReads (nib-repeated (num g) i (num-lt g) h) ∙ reads-num g
 
 -- every granule of the flat word reads the same
 pub flat-reads : (w i : ℕ) → i < 16 → readAt (flat w) i ≡ readAt w i

@@ -1,5 +1,4 @@
--- The Arm format has the laws that the theory of tables asks for.
--- Assumes nothing.
+-- Laws of `l1`: the Arm format has the laws that the theory of tables asks for, and the code's words and tests are the theory's.
 use mathlib.Core.Path.{_≡_, refl, sym, ap, _∙_}
 use mathlib.Core.List.{List, _∷_, map}
 use mathlib.Core.Bool.{Bool, true, false, cond, _&&_}

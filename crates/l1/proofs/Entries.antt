@@ -1,5 +1,4 @@
--- What an L1 word says: the kinds never meet, and a word that was made says what it was made of.
--- Assumes nothing.
+-- Laws of `l1`: what an L1 word says; the kinds never meet, and a word that was made says what it was made of.
 use mathlib.Core.Path.{_≡_, refl, sym, ap, ap₂, _∙_}
 use mathlib.Core.Bool.{Bool, true, false}
 use Prim.Native.Nat.{ℕ, zero, suc, _/_, _%_, _^_, _<_, _≤_}

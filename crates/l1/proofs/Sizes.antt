@@ -1,5 +1,4 @@
--- Sizes as levels: the next smaller.
--- Assumes nothing.
+-- Laws of `l1`: sizes as levels, the next smaller.
 use mathlib.Core.Path.{_≡_, refl}
 use Prim.Native.Nat.{suc}
 use Rattle.gpi.specs.declared.Size.{Size}

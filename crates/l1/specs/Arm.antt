@@ -1,6 +1,5 @@
--- The Arm format of L1 words, edition 1, as the theory of tables asks for it: its functions, from the definitions of `L1`. That they have the
--- theory's laws is shown in `proofs/Arm` of `l1`.
--- Assumes nothing: these are definitions.
+-- Definitions of `l1`: the Arm format of L1 words, edition 1, as the theory of tables asks for it, from the definitions of `L1`. That its
+-- functions have the theory's laws is shown in `proofs/Arm`.
 use Prim.Native.Nat.{ℕ, _+_, _%_}
 use mathlib.Core.Bool.{Bool, true, false}
 use Rattle.gpi.specs.declared.Size.{Size}

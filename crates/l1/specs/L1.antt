@@ -1,5 +1,5 @@
--- Document 01, "Words": what a word of an L1 table says, the L1 words that are made, and `flat`, on which the theory of tables stands.
--- Assumes nothing: these are definitions.
+-- Definitions of `l1`, after document 01, "Words": what a word of an L1 table says, the L1 words that are made, and `flat`, on which the
+-- theory of tables stands.
 use Prim.Native.Nat.{ℕ, _+_, _*_, _/_, _%_, _^_}
 use mathlib.Core.Bool.{Bool, true, false, cond}
 use lib.Dec.{eqb}

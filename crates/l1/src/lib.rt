@@ -1,4 +1,4 @@
-// Words of the L1 tables: what they say, and how they are made. From table.rs: the descriptors of L1, by value.
+// `l1`: words of the L1 tables, what they say, and how they are made. From table.rs: the descriptors of L1, by value.
 ghost use mathlib.Core.Path.{_≡_};
 ghost use Prim.Native.Nat.{_<_, _≤_};
 ghost use Rattle.theory.specs.Normal.{span as spanOf};
@@ -88,8 +88,8 @@ fn same(yes: bool) -> Match
     if yes { Match::Same } else { Match::Other }
 }
 
-// Whether a word reads this GPI throughout. Not by way of `l1_entry`: a scan wants neither the size nor an entry in memory, and asks the table
-// of nibbles only where the GPIs differ.
+// Whether a word reads this GPI throughout. Not by way of `l1_entry`: a scan wants neither the size nor an entry in memory, and asks the
+// table of nibbles only where the GPIs differ.
 pub fn matches_gpi(w: u64, g: Gpi) -> Match
     ensures { λ r. ⌜ r ≡ matchAt w g ⌝ }
 {

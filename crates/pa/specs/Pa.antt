@@ -1,5 +1,4 @@
--- Document 01, "Port order": addresses and their signed distance.
--- Assumes nothing: these are definitions.
+-- Definitions of `pa`, after document 01, "Port order": addresses and their signed distance.
 use mathlib.Core.Bool.{Bool, true, false, cond, _&&_}
 use Prim.Native.Nat.{ℕ, _*_, _/_, _^_}
 use lib.Dec.{ltb}

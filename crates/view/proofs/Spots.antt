@@ -1,5 +1,5 @@
--- Laws of spots: the widths are small, a spot lies in its table, and in the L1 table of an address it is the word and the granule that a lookup reads.
--- Assumes nothing.
+-- Laws of `view`: the widths are small, a spot lies in its table, and in the L1 table of an address it is the word and the granule that a
+-- lookup reads.
 use mathlib.Core.Path.{_≡_, refl, sym, ap, ap₂, _∙_, subst}
 use mathlib.Core.Bool.{Bool, true, false, cond, _&&_, _||_}
 use mathlib.Core.List.{List}

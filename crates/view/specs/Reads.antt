@@ -1,6 +1,5 @@
--- What the readers of a table's view answer. An address is told by its distance d in bytes from the table's first; granules are of 2^width
--- bytes.
--- Assumes nothing: these are definitions.
+-- Definitions of `view`: what the readers of a table's view answer. An address is told by its distance d in bytes from the table's first;
+-- granules are of 2^width bytes.
 use mathlib.Core.Bool.{Bool, cond, _&&_, _||_}
 use mathlib.Core.List.{List}
 use Prim.Native.Nat.{ℕ, _/_, _%_, _^_}

@@ -1,5 +1,5 @@
-// A read-only view of an L1 table: the caller's words and the granule width, with thin readers over covered functions. In the place of
-// table.rs's `GranuleDescriptorRef`. An address is told by its distance in bytes from the table's first.
+// `view`: a read-only view of an L1 table, the caller's words and the granule width, with thin readers over covered functions. In the place
+// of table.rs's `GranuleDescriptorRef`. An address is told by its distance in bytes from the table's first.
 ghost use mathlib.Core.Path.{_≡_};
 ghost use Prim.Native.Nat.{_<_};
 ghost use Rattle.l1.specs.L1.{readAt};

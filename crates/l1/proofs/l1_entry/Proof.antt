@@ -1,5 +1,4 @@
 -- `l1::l1_entry` meets its contract: each way out has what the tests and the readers said.
--- Assumes nothing.
 use mathlib.Core.Path.{refl, sym, ap₂, _∙_}
 use Rattle.l1.specs.L1.{contiguousOf}
 use Rattle.l1.proofs.Entries.{l1-tagged, l1-asked}

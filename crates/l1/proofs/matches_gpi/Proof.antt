@@ -1,5 +1,4 @@
 -- `l1::matches_gpi` meets its contract: by the low nibble; a contiguous word matches by its GPI whatever its size, if it has both.
--- Assumes nothing.
 use mathlib.Core.Path.{_≡_, refl, sym, ap, _∙_}
 use mathlib.Core.Bool.{true, false}
 use Prim.Native.Nat.{ℕ, _/_, _%_, _≤_}

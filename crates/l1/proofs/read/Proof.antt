@@ -18,7 +18,9 @@ sized (Known g) s w i = refl
 sized Reserved s w i = refl
 
 returns : tie.Need-returns
-returns c = let a = c .before .before .args in sym (ap (entryReads (a .w) (a .i)) (l1-unsized (a .w) (c .before .if1 .taken) (c .if2 .taken)))
+returns c =
+    let a = c .before .before .args in
+    sym (ap (entryReads (a .w) (a .i)) (l1-unsized (a .w) (c .before .if1 .taken) (c .if2 .taken)))
 
 returns-2 : tie.Need-returns-2
 returns-2 c =

@@ -1,5 +1,4 @@
--- `pa::sub` meets its contract: addresses below 2^52 are themselves as i64, and their difference fits.
--- Assumes nothing.
+-- `pa::PA::sub` meets its contract: addresses below 2^52 are themselves as i64, and their difference fits.
 use borrow.Author.Needs.{needs}
 use borrow.Author.Tests.{le-ltb, lt-ltb}
 use mathlib.Core.Path.{_≡_, sym, ap, subst, _∙_}
