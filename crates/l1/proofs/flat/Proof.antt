@@ -12,7 +12,8 @@ use Rattle.l1.proofs.flat.Statement.{statement}
 use Rattle.l1.proofs.flat.Tie as tie
 
 -- the entry that was told is the word's
-told : (c : tie.After-l1-entry) {e : L1Entry} → c .l1-entry .result ≡ e → flatOf e (c .before .before .args .w) ≡ flat (c .before .before .args .w)
+told : (c : tie.After-l1-entry) {e : L1Entry} → c .l1-entry .result ≡ e
+    → flatOf e (c .before .before .args .w) ≡ flat (c .before .before .args .w)
 told c t = sym (ap (λ (e : L1Entry). flatOf e (c .before .before .args .w)) (sym (c .l1-entry .ensures) ∙ t))
 
 mul-result : tie.Need-mul-result
