@@ -1,6 +1,6 @@
 -- Rules of `gpi`: the table of nibbles, by one computed test over its sixteen entries: an entry is the GPI whose number is its place, or
 -- the place is one of the five reserved. So each GPI is found at its number and at no other. And the same of sizes.
-use mathlib.Core.Path.{_≡_, refl, sym, _∙_, subst, ap}
+use mathlib.Core.Path.{_≡_, refl, sym, _∙_, subst}
 use mathlib.Core.Bool.{Bool, true, false, _||_}
 use mathlib.Core.List.{List, [], _∷_}
 use Prim.Native.Nat.{ℕ, _+_, _*_, _<_, _≤_}
@@ -13,7 +13,7 @@ use Rattle.gpi.specs.Gpi.{num, gpiAt, nibbles, isKnown, knownAt}
 use Rattle.gpi.specs.Size.{sizeNum, sizeAt, bytesOf, smallerOf}
 use Rattle.gpi.specs.declared.Size.{Size}
 use Rattle.gpi.specs.declared.Size.the-variants.{MB2, MB32, MB512}
-use Rattle.gpi.specs.declared.SizeCode.the-variants.{Is, None}
+use Rattle.gpi.specs.declared.SizeCode.the-variants.{Is}
 use Rattle.gpi.specs.declared.Gpi.{Gpi}
 use Rattle.gpi.specs.declared.Gpi.the-variants.{NoAccess, SystemAgent, NonSecureProtected, NoAccess6, NoAccess7, Secure, NonSecure}
 use Rattle.gpi.specs.declared.Gpi.the-variants.{Root, Realm, NonSecureOnly, Any}

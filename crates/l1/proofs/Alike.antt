@@ -3,7 +3,6 @@
 use mathlib.Core.Path.{_≡_, refl, sym, ap, _∙_, subst}
 use mathlib.Core.Bool.{Bool, true, false}
 use Prim.Native.Nat.{ℕ, _%_, _^_, _<_}
-use native.Mathlib.Omega.{arith}
 use lib.ListN.{length, getD}
 use lib.Seq.{ext-getD}
 use Rattle.gpi.specs.declared.Gpi.{Gpi}
@@ -100,6 +99,10 @@ flat-reads w i h = go (l1Of w) refl
     go (Contiguous g s) p = repeated-reads g i h
     go Granules p = ap (entryReads w i) p
     go Invalid p = ap (entryReads w i) p
+
+-- so words of one flat word read alike
+pub same-reading : (v w i : ℕ) → i < 16 → flat v ≡ flat w → readAt v i ≡ readAt w i
+same-reading v w i h e = sym (flat-reads v i h) ∙ ap (λ (x : ℕ). readAt x i) e ∙ flat-reads w i h
 
 -- ---- a granule store into a word of granules
 

@@ -23,15 +23,15 @@ use Rattle.granules.specs.Packed.{repeated, put, granuleWord}
 use Rattle.l1.specs.L1.{l1Of, readOf, readAt, contigWord, flat, flatOf, matchAt, matchOf, sameOf}
 use Rattle.l1.specs.Arm.{validOf, sizeOf, levelOf, contigAt, arm}
 use Rattle.l1.specs.declared.Reading.{Reading}
-use Rattle.l1.specs.declared.Reading.the-variants.{Invalid as Unread}
+use Rattle.l1.specs.declared.Reading.the-variants.{Known, Invalid as Unread}
 use Rattle.l1.specs.declared.Match.the-variants.{Same, Other, Bad}
 use Rattle.l1.specs.declared.L1Entry.{L1Entry}
 use Rattle.l1.specs.declared.L1Entry.the-variants.{Contiguous, Granules, Invalid}
 use Rattle.granules.proofs.Digits.{nibs-step, alike16, repeat16}
 use Rattle.granules.proofs.Store.{put-same, put-other}
-use Rattle.granules.proofs.Packed.{nib-repeated}
-use Rattle.l1.proofs.Entries.{granules-known, l1-contig}
-use Rattle.l1.proofs.Alike.{coarse, l1-flat, flat-idem, numReads, reads-num, put-granules}
+use Rattle.granules.proofs.Packed.{nib-repeated, repeated-lt}
+use Rattle.l1.proofs.Entries.{granules-known, l1-contig, l1-repeated}
+use Rattle.l1.proofs.Alike.{coarse, l1-flat, flat-idem, entryReads, numReads, reads-num, repeated-reads, put-granules, reads-flat}
 
 -- ---- numbers that are known are those of GPIs, levels those of sizes
 
@@ -233,3 +233,24 @@ read-is w n h = go (l1Of w)
     go (Contiguous g s) = sym (ap numReads (nib-repeated (num g) n (num-lt g) h) ∙ reads-num g)
     go Granules = refl
     go Invalid = refl
+
+-- a word of 64 bits that reads g in all sixteen granules
+pub reads-all : (v : ℕ) (g : Gpi) → v < 2 ^ 64 → ((n : ℕ) → n < 16 → readAt v n ≡ Known g) → reads arm v (num g) ≡ true
+unfolding reads
+reads-all v g b r = rw (valid (l1Of v) refl, eq-eqb (flat v) (repeated (num g)) same) refl
+  where
+    sound : l1Of v ≡ Invalid → ⊥
+    sound p = let z : Unread ≡ Known g = sym (ap (entryReads v 0) p) ∙ r 0 (lit< tt) in apart (cc)
+
+    valid : (e : L1Entry) → l1Of v ≡ e → validOf e ≡ true
+    valid (Contiguous h s) p = refl
+    valid Granules p = refl
+    valid Invalid p = absurd (sound p)
+
+    granules : l1Of (repeated (num g)) ≡ Invalid → ⊥
+    granules e = let z : Granules ≡ Invalid = sym (l1-repeated g) ∙ e in apart (cc)
+
+    same : flat v ≡ repeated (num g)
+    same =
+        reads-flat v (repeated (num g)) b (repeated-lt g) sound granules (λ n h. r n h ∙ sym (repeated-reads g n h))
+        ∙ flat-of-granules (repeated (num g)) (l1-repeated g)

@@ -1,6 +1,5 @@
 -- `l1::flat` meets its contract.
 use mathlib.Core.Path.{_≡_, sym, ap, _∙_}
-use Prim.Native.Nat.{ℕ}
 use native.Mathlib.Omega.{arith}
 use Rattle.gpi.proofs.Rules.{num-lt}
 use Rattle.granules.specs.Packed.{repeated}

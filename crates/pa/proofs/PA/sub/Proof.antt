@@ -11,7 +11,6 @@ use lib.Signed.{mag}
 use mir.Syntax.{w64}
 use mir.Val.{SFits, toZ}
 use mir.ValLaws.{toZ-ofZ, toZ-pos}
-use Rattle.pa.specs.declared.Distance.{Distance}
 use Rattle.pa.specs.declared.Distance.the-variants.{Is, Refused}
 use Rattle.pa.specs.Pa.{distanceOf}
 use Rattle.pa.proofs.PA.sub.Statement.{statement}
