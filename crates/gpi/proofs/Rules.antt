@@ -1,7 +1,6 @@
--- The rule of the table of nibbles, by one computed test over its sixteen entries: an entry is the GPI whose number is its place, or the place
--- is one of the five reserved. So each GPI is found at its number and at no other. And the same of sizes.
--- Assumes nothing.
-use mathlib.Core.Path.{_≡_, refl, sym, _∙_, subst, ap}
+-- Rules of `gpi`: the table of nibbles, by one computed test over its sixteen entries: an entry is the GPI whose number is its place, or
+-- the place is one of the five reserved. So each GPI is found at its number and at no other. And the same of sizes.
+use mathlib.Core.Path.{_≡_, refl, sym, _∙_, subst}
 use mathlib.Core.Bool.{Bool, true, false, _||_}
 use mathlib.Core.List.{List, [], _∷_}
 use Prim.Native.Nat.{ℕ, _+_, _*_, _<_, _≤_}
@@ -14,12 +13,13 @@ use Rattle.gpi.specs.Gpi.{num, gpiAt, nibbles, isKnown, knownAt}
 use Rattle.gpi.specs.Size.{sizeNum, sizeAt, bytesOf, smallerOf}
 use Rattle.gpi.specs.declared.Size.{Size}
 use Rattle.gpi.specs.declared.Size.the-variants.{MB2, MB32, MB512}
-use Rattle.gpi.specs.declared.SizeCode.the-variants.{Is, None}
+use Rattle.gpi.specs.declared.SizeCode.the-variants.{Is}
 use Rattle.gpi.specs.declared.Gpi.{Gpi}
-use Rattle.gpi.specs.declared.Gpi.the-variants.{NoAccess, SystemAgent, NonSecureProtected, NoAccess6, NoAccess7, Secure, NonSecure, Root, Realm, NonSecureOnly, Any}
+use Rattle.gpi.specs.declared.Gpi.the-variants.{NoAccess, SystemAgent, NonSecureProtected, NoAccess6, NoAccess7, Secure, NonSecure}
+use Rattle.gpi.specs.declared.Gpi.the-variants.{Root, Realm, NonSecureOnly, Any}
 use Rattle.gpi.specs.declared.Nibble.{Nibble}
 use Rattle.gpi.specs.declared.Nibble.the-variants.{Known, Reserved}
-use Rattle.gpi.proofs.Table.{at, agree, agreed}
+use Rattle.gpi.proofs.Table.{apart, at, agree, agreed}
 
 -- ---- the table of nibbles
 
@@ -46,7 +46,19 @@ valid-at k h = agreed (getD valid k false) (knownAt k) (at (λ j. agree (getD va
 -- its number finds it
 pub gpi-num : (g : Gpi) → gpiAt (num g) ≡ Known g
 gpi-num g =
-    elim g [ NoAccess ↦ refl | SystemAgent ↦ refl | NonSecureProtected ↦ refl | NoAccess6 ↦ refl | NoAccess7 ↦ refl | Secure ↦ refl | NonSecure ↦ refl | Root ↦ refl | Realm ↦ refl | NonSecureOnly ↦ refl | Any ↦ refl ]
+    elim g [
+      | NoAccess ↦ refl
+      | SystemAgent ↦ refl
+      | NonSecureProtected ↦ refl
+      | NoAccess6 ↦ refl
+      | NoAccess7 ↦ refl
+      | Secure ↦ refl
+      | NonSecure ↦ refl
+      | Root ↦ refl
+      | Realm ↦ refl
+      | NonSecureOnly ↦ refl
+      | Any ↦ refl
+    ]
 
 -- and no other number does
 pub num-at : (n : ℕ) (g : Gpi) → gpiAt n ≡ Known g → n ≡ num g
@@ -55,9 +67,7 @@ num-at n g e = go (decLt n 16)
     go : Dec (n < 16) → n ≡ num g
     go (yes l) = eqb-true n (num g) (subst (λ (x : Nibble). placed n x ≡ true) e (table n l))
     go (no l) =
-        let p : _≡_ {A = Nibble} Reserved (Known g) = sym (past n (omega arith)) ∙ e in
-        let z : _≡_ {A = ℕ} 0 1 = cc in
-        absurd (omega arith)
+        let p : _≡_ {A = Nibble} Reserved (Known g) = sym (past n (omega arith)) ∙ e in apart (cc)
 
 pub known-lt : (n : ℕ) → knownAt n ≡ true → n < 16
 known-lt n e = go (decLt n 16)
@@ -65,9 +75,7 @@ known-lt n e = go (decLt n 16)
     go : Dec (n < 16) → n < 16
     go (yes l) = l
     go (no l) =
-        let p : false ≡ true = rw (past n (omega arith)) at e in
-        let z : _≡_ {A = ℕ} 0 1 = cc in
-        absurd (omega arith)
+        let p : false ≡ true = rw (past n (omega arith)) at e in apart (cc)
 
 pub num-lt : (g : Gpi) → num g < 16
 num-lt g = known-lt (num g) (rw (gpi-num g))
@@ -78,13 +86,13 @@ named P n k f = go (gpiAt n) refl k
   where
     go : (x : Nibble) → gpiAt n ≡ x → isKnown x ≡ true → P
     go (Known g) e k = f g (num-at n g e)
-    go Reserved e k = let z : _≡_ {A = ℕ} 0 1 = cc in absurd (omega arith)
+    go Reserved e k = apart (cc)
 
 pub unnamed : (n : ℕ) → knownAt n ≡ false → gpiAt n ≡ Reserved
 unnamed n k = go (gpiAt n) k
   where
     go : (x : Nibble) → isKnown x ≡ false → x ≡ Reserved
-    go (Known g) k = let z : _≡_ {A = ℕ} 0 1 = cc in absurd (omega arith)
+    go (Known g) k = apart (cc)
     go Reserved k = refl
 
 -- ---- sizes
@@ -100,6 +108,6 @@ size-pos s = elim s [ MB2 ↦ lit< tt | MB32 ↦ lit< tt | MB512 ↦ lit< tt ]
 
 -- the next smaller size is one code below, and a sixteenth
 pub smaller-num : (s r : Size) → smallerOf s ≡ Is r → (sizeNum r + 1 ≡ sizeNum s) × (16 * bytesOf r ≡ bytesOf s)
-smaller-num MB2 r e = let z : _≡_ {A = ℕ} 0 1 = cc in absurd (omega arith)
+smaller-num MB2 r e = apart (cc)
 smaller-num MB32 r e = let p : MB2 ≡ r = cc in subst (λ (x : Size). (sizeNum x + 1 ≡ 2) × (16 * bytesOf x ≡ bytesOf MB32)) p (refl, refl)
 smaller-num MB512 r e = let p : MB32 ≡ r = cc in subst (λ (x : Size). (sizeNum x + 1 ≡ 3) × (16 * bytesOf x ≡ bytesOf MB512)) p (refl, refl)

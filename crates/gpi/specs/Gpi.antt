@@ -1,11 +1,11 @@
--- Document 01, "Words": a GPI's number, and the sixteen-entry table of nibbles, five of them reserved.
--- Assumes nothing: these are definitions.
+-- Definitions of `gpi`, after document 01, "Words": a GPI's number, and the sixteen-entry table of nibbles, five of them reserved.
 use Prim.Native.Nat.{ℕ}
 use mathlib.Core.List.{List, [], _∷_}
 use mathlib.Core.Bool.{Bool, true, false}
 use lib.ListN.{getD}
 use Rattle.gpi.specs.declared.Gpi.{Gpi}
-use Rattle.gpi.specs.declared.Gpi.the-variants.{NoAccess, SystemAgent, NonSecureProtected, NoAccess6, NoAccess7, Secure, NonSecure, Root, Realm, NonSecureOnly, Any}
+use Rattle.gpi.specs.declared.Gpi.the-variants.{NoAccess, SystemAgent, NonSecureProtected, NoAccess6, NoAccess7, Secure, NonSecure}
+use Rattle.gpi.specs.declared.Gpi.the-variants.{Root, Realm, NonSecureOnly, Any}
 use Rattle.gpi.specs.declared.Nibble.{Nibble}
 use Rattle.gpi.specs.declared.Nibble.the-variants.{Known, Reserved}
 

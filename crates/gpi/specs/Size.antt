@@ -1,7 +1,7 @@
--- Document 01, "Words": the sizes of a contiguous descriptor, "1 is 2 MB, 2 is 32 MB, 3 is 512 MB; 0 is invalid".
--- Assumes nothing: these are definitions.
+-- Definitions of `gpi`, after document 01, "Words": the sizes of a contiguous descriptor, "1 is 2 MB, 2 is 32 MB, 3 is 512 MB; 0 is
+-- invalid".
 use Prim.Native.Nat.{ℕ, _*_, _^_}
-use mathlib.Core.List.{List, [], _∷_}
+use mathlib.Core.List.{[], _∷_}
 use lib.ListN.{getD}
 use Rattle.gpi.specs.declared.Size.{Size}
 use Rattle.gpi.specs.declared.Size.the-variants.{MB2, MB32, MB512}

@@ -1,5 +1,5 @@
-// GPIs and the sizes of contiguous descriptors: their numbers and back, and the table of nibbles.
-// From table.rs: `GPIAccessType`, `ContigSize`.
+// `gpi`: GPIs and the sizes of contiguous descriptors, their numbers and back, and the table of nibbles. From table.rs: `GPIAccessType`,
+// `ContigSize`.
 ghost use mathlib.Core.Path.{_≡_};
 ghost use mathlib.Core.Bool.{true};
 ghost use Rattle.gpi.specs.Gpi.{num, gpiAt, knownAt};
@@ -41,22 +41,22 @@ pub enum SizeCode {
 
 // The nibbles that stand for a GPI. Each use of a constant array builds it anew, by three stores.
 pub const VALID: [bool; 16] = [
-    true,
-    false,
-    false,
-    false,
-    true,
-    true,
-    true,
-    true,
-    true,
-    true,
-    true,
-    true,
-    false,
-    true,
-    false,
-    true,
+    true, // 0 NoAccess
+    false, // 1 reserved
+    false, // 2 reserved
+    false, // 3 reserved
+    true, // 4 SystemAgent
+    true, // 5 NonSecureProtected
+    true, // 6 NoAccess6
+    true, // 7 NoAccess7
+    true, // 8 Secure
+    true, // 9 NonSecure
+    true, // 10 Root
+    true, // 11 Realm
+    false, // 12 reserved
+    true, // 13 NonSecureOnly
+    false, // 14 reserved
+    true, // 15 Any
 ];
 
 // Whether a number is a GPI's.

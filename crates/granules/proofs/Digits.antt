@@ -1,10 +1,10 @@
--- The laws of nibbles: a word is its list of nibbles, and a list of nibbles its word.
--- Assumes nothing.
+-- Laws of `granules`: a word is its list of nibbles, and a list of nibbles its word.
 use mathlib.Core.Path.{_≡_, refl, sym, ap, ap₂, _∙_, subst}
 use mathlib.Core.List.{List, [], _∷_}
 use mathlib.Core.Bool.{Bool, true, false}
 use Prim.Native.Nat.{ℕ, zero, suc, _+_, _-_, _*_, _/_, _%_, _^_, _≤_, _<_}
-use native.Mathlib.Nat.{pow-suc, pow-succ', div-one, div-div-eq-div-mul, mul-assoc, mul-zero, mul-add, div-lt-iff-lt-mul, le-of-suc-le-suc, not-suc-le-zero}
+use native.Mathlib.Nat.{pow-suc, pow-succ', div-one, div-div-eq-div-mul, mul-assoc, mul-zero, mul-add, div-lt-iff-lt-mul}
+use native.Mathlib.Nat.{le-of-suc-le-suc, not-suc-le-zero}
 use native.Mathlib.Omega.{arith}
 use lib.Arith.{lt-one}
 use borrow.Author.Tests.{eqb-true, eq-eqb}
@@ -50,7 +50,8 @@ pub word-nibs : (n w : ℕ) → w < 16 ^ n → word (nibs n w) ≡ w
 unfolding nibs word
 word-nibs zero w h = sym (lt-one h)
 word-nibs (suc n) w h =
-    ap (λ (x : ℕ). w % 16 + x * 16) (word-nibs n (w / 16) (div-lt-iff-lt-mul (lit< tt) .1 (subst (λ (p : ℕ). w < p) (pow-suc 16 n) h))) ∙ omega arith
+    let q : w / 16 < 16 ^ n = div-lt-iff-lt-mul (lit< tt) .1 (subst (λ (p : ℕ). w < p) (pow-suc 16 n) h) in
+    ap (λ (x : ℕ). w % 16 + x * 16) (word-nibs n (w / 16) q) ∙ omega arith
 
 pub nibs-word : (l : List ℕ) → Small l → nibs (length l) (word l) ≡ l
 unfolding nibs word
@@ -62,7 +63,10 @@ nibs-word (x ∷ l) s =
 pub word-lt : (l : List ℕ) → Small l → word l < 16 ^ length l
 unfolding word
 word-lt [] s = lit< tt
-word-lt (x ∷ l) s = subst (λ (p : ℕ). x + word l * 16 < p) (sym (pow-suc 16 (length l))) (let h = s .0 in let k = word-lt l (s .1) in omega arith)
+word-lt (x ∷ l) s =
+    let h = s .0 in
+    let k = word-lt l (s .1) in
+    subst (λ (p : ℕ). x + word l * 16 < p) (sym (pow-suc 16 (length l))) (omega arith)
 
 -- ---- a store
 

@@ -1,5 +1,4 @@
--- One test by masks is the table's rule at each nibble of a word: a bit operation works on each nibble apart.
--- Assumes nothing.
+-- Laws of `granules`: one test by masks is the table's rule at each nibble of a word, since a bit operation works on each nibble apart.
 use mathlib.Core.Path.{_≡_, refl, ap, ap₂, _∙_}
 use mathlib.Core.Bool.{_&&_}
 use Prim.Native.Nat.{ℕ, zero, suc, _+_, _*_, _/_, _%_, _<_}
@@ -49,7 +48,8 @@ module _ (m w : ℕ) where
 
   low : eqb (more % 16) 0 ≡ knownAt (w % 16)
   low =
-      let p = part (λ x. x % 16) (λ x y. and-mod x y 4) (λ x y. or-mod x y 4) (λ x y. xor-mod x y 4) (1 + m * 16) w (w / 2) (w / 4) (w / 8) in
+      let p =
+      part (λ x. x % 16) (λ x y. and-mod x y 4) (λ x y. or-mod x y 4) (λ x y. xor-mod x y 4) (1 + m * 16) w (w / 2) (w / 4) (w / 8) in
       let e : (1 + m * 16) % 16 ≡ 1 = omega arith in
       rw (p, e, a, b, c, d) (rule (w % 128) (omega arith))
 
@@ -59,7 +59,8 @@ module _ (m w : ℕ) where
       let f : w / 2 / 16 ≡ w / 16 / 2 = omega arith in
       let g : w / 4 / 16 ≡ w / 16 / 4 = omega arith in
       let h : w / 8 / 16 ≡ w / 16 / 8 = omega arith in
-      part (λ x. x / 16) (λ x y. and-shr x y 4) (λ x y. or-shr x y 4) (λ x y. xor-shr x y 4) (1 + m * 16) w (w / 2) (w / 4) (w / 8) ∙ rw (e, f, g, h)
+      part (λ x. x / 16) (λ x y. and-shr x y 4) (λ x y. or-shr x y 4) (λ x y. xor-shr x y 4) (1 + m * 16) w (w / 2) (w / 4) (w / 8)
+      ∙ rw (e, f, g, h)
 
 -- a number is 0 just where its low nibble and the rest are
 none : (x y : ℕ) → eqb (x + y * 16) 0 ≡ (eqb x 0 && eqb y 0)

@@ -1,8 +1,8 @@
--- Sixteen GPIs and their word: the loops that make the one from the other, and the way there and back; one GPI sixteen times.
--- Assumes nothing.
+-- Laws of `granules`: sixteen GPIs and their word, the loops that make the one from the other, and the way there and back; one GPI sixteen
+-- times.
 use mathlib.Core.Path.{_≡_, refl, sym, ap, ap₂, _∙_, subst}
 use mathlib.Core.List.{List, [], _∷_, _++_, map, append-assoc, append-nil}
-use mathlib.Core.Bool.{true, false}
+use mathlib.Core.Bool.{true}
 use Prim.Native.Nat.{ℕ, suc, _+_, _-_, _*_, _/_, _%_, _^_, _≤_, _<_}
 use native.Mathlib.Nat.{lt-of-lt-of-le, pow-le-pow-right}
 use native.Mathlib.Numerals.{add-one}
@@ -12,9 +12,8 @@ use lib.ListN.{length, getD, set, take, drop, length-drop, length-set, length-ma
 use lib.Seq.{drop-cons, drop-length, take-suc-set, take-all}
 use Rattle.gpi.specs.declared.Gpi.{Gpi}
 use Rattle.gpi.specs.declared.Nibble.{Nibble}
-use Rattle.gpi.specs.declared.Nibble.the-variants.{Known, Reserved}
-use Rattle.gpi.specs.Gpi.{num, gpiAt, isKnown, knownAt}
-use Rattle.gpi.proofs.Rules.{num-lt, num-at, gpi-num}
+use Rattle.gpi.specs.Gpi.{num, gpiAt, knownAt}
+use Rattle.gpi.proofs.Rules.{num-lt, gpi-num, named}
 use Rattle.gpi.proofs.Table.{and-both}
 use Rattle.granules.specs.Nibs.{nib, nibs, word, all}
 use Rattle.granules.specs.Packed.{granuleWord, gpisOf, orNoAccess, repeated}
@@ -76,14 +75,7 @@ take-end l a v n h t =
 
 -- of a word of sixteen GPIs, the GPIs read back have its nibbles as their numbers
 back-num : (n : ℕ) → knownAt n ≡ true → num (back n) ≡ n
-back-num n t = go (gpiAt n) refl
-  where
-    go : (x : Nibble) → gpiAt n ≡ x → num (orNoAccess x) ≡ n
-    go (Known g) e = sym (num-at n g e)
-    go Reserved e =
-        let p : false ≡ true = sym (ap isKnown e) ∙ t in
-        let z : _≡_ {A = ℕ} 0 1 = cc in
-        absurd (omega arith)
+back-num n t = named _ n t (λ g e. ap (λ (x : Nibble). num (orNoAccess x)) (ap gpiAt e ∙ gpi-num g) ∙ sym e)
 
 pub back-nums : (l : List ℕ) → all knownAt l ≡ true → map num (map (λ x. orNoAccess (gpiAt x)) l) ≡ l
 back-nums [] t = refl

@@ -1,5 +1,4 @@
--- The granule store, as the code computes it, is the store in the list of nibbles; and what it leaves.
--- Assumes nothing.
+-- Laws of `granules`: the granule store, as the code computes it, is the store in the list of nibbles; and what it leaves.
 use mathlib.Core.Path.{_≡_, refl, sym, ap, ap₂, _∙_, subst}
 use mathlib.Core.List.{List}
 use Prim.Native.Nat.{ℕ, zero, suc, _+_, _-_, _*_, _/_, _%_, _^_, _≤_, _<_}
@@ -48,7 +47,8 @@ module _ (w i x : ℕ) (hi : i < 16) (hx : x < 16) where
 
   pub put-other : (j : ℕ) → j < 16 → (j ≡ i → ⊥) → nib (put w i x) j ≡ nib w j
   put-other j hj ne =
-      sym (getD-nibs 16 (put w i x) j hj) ∙ ap (λ (l : List ℕ). getD l j 0) nibs-put ∙ getD-set-other (nibs 16 w) i j x 0 ne ∙ getD-nibs 16 w j hj
+      sym (getD-nibs 16 (put w i x) j hj) ∙ ap (λ (l : List ℕ). getD l j 0) nibs-put
+      ∙ getD-set-other (nibs 16 w) i j x 0 ne ∙ getD-nibs 16 w j hj
 
   -- as a sum: the old nibble's share goes, and the new one's comes
   moved : w < 2 ^ 64 → put w i x + nib w i * 16 ^ i ≡ w + x * 16 ^ i

@@ -1,5 +1,4 @@
--- A word as sixteen nibbles: document 01, "sixteen GPIs, lowest address in the low nibble".
--- Assumes nothing: these are definitions.
+-- Definitions of `granules`: a word as sixteen nibbles, after document 01, "sixteen GPIs, lowest address in the low nibble".
 use Prim.Native.Nat.{ℕ, zero, suc, _+_, _*_, _/_, _%_, _^_}
 use mathlib.Core.List.{List, [], _∷_}
 use mathlib.Core.Bool.{Bool, true, _&&_}

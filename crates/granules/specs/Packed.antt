@@ -1,5 +1,4 @@
--- Document 01, "Words": sixteen GPIs as a word, read back, and one of them stored.
--- Assumes nothing: these are definitions.
+-- Definitions of `granules`, after document 01, "Words": sixteen GPIs as a word, read back, and one of them stored.
 use Prim.Native.Nat.{ℕ, _*_}
 use mathlib.Core.List.{List, map}
 use lib.ListN.{set}

@@ -1,5 +1,5 @@
-// The sixteen nibbles of a word: whether each of them is a GPI's, or one GPI's; sixteen GPIs as a word, and one of them read or stored. From
-// table.rs: the descriptors of granules, by value. Which words are such is `l1`' to say.
+// `granules`: the sixteen nibbles of a word. Whether each of them is a GPI's, or one GPI's; sixteen GPIs as a word, and one of them read or
+// stored. From table.rs: the descriptors of granules, by value. Which words are such is `l1`'s to say.
 ghost use mathlib.Core.Path.{_≡_};
 ghost use Prim.Native.Nat.{_<_};
 ghost use lib.Dec.{eqb};
@@ -9,8 +9,8 @@ ghost use Rattle.granules.specs.Packed.{granuleWord, gpisOf, put, orNoAc
 use gpi::Gpi;
 use gpi::Nibble;
 
-// Whether each of the sixteen nibbles is a GPI's, by one test of them all. A nibble is reserved where its bits 2 and 3 are off and bit 0 or 1
-// is on (1, 2, 3), or where bits 2 and 3 are on and bit 0 is off (12, 14). Each bit is brought to the lowest place of its nibble.
+// Whether each of the sixteen nibbles is a GPI's, by one test of them all. A nibble is reserved where its bits 2 and 3 are off and bit 0 or
+// 1 is on (1, 2, 3), or where bits 2 and 3 are on and bit 0 is off (12, 14). Each bit is brought to the lowest place of its nibble.
 pub fn all_valid(w: u64) -> bool
     ensures { λ r. ⌜ r ≡ all knownAt (nibs 16 w) ⌝ }
 {

@@ -1,5 +1,4 @@
--- Worked examples of the definitions, by computation alone: the L0 words of document 01's cases.
--- Assumes nothing.
+-- Worked examples of the definitions of `l0`, by computation alone: the L0 words of document 01's cases.
 use mathlib.Core.Path.{_≡_, refl}
 use Rattle.gpi.specs.declared.Gpi.the-variants.{NonSecure}
 use Rattle.pa.specs.Pa.{pa}

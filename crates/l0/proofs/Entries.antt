@@ -1,5 +1,4 @@
--- What an L0 word says: a word that was made says what it was made of.
--- Assumes nothing.
+-- Laws of `l0`: what an L0 word says, and that a word that was made says what it was made of.
 use mathlib.Core.Path.{_≡_, refl, sym, ap, _∙_}
 use mathlib.Core.Bool.{Bool, true, false}
 use Prim.Native.Nat.{ℕ, _+_, _*_, _/_, _%_, _^_, _<_}
@@ -9,6 +8,7 @@ use borrow.Author.Tests.{eq-eqb, eqb-true, ltb-true}
 use lib.Dec.{eqb, ltb}
 use Rattle.gpi.specs.declared.Gpi.{Gpi}
 use Rattle.gpi.specs.Gpi.{num, gpiAt}
+use Rattle.gpi.proofs.Table.{apart}
 use Rattle.gpi.proofs.Rules.{num-lt, gpi-num}
 use Rattle.pa.specs.Pa.{pa}
 use Rattle.l0.specs.L0.{l0Of, blockOf, blockWord, tableWordOf}
@@ -41,5 +41,5 @@ l0-table a w e = go (eqb (a % 4096) 0) refl (ltb a (2 ^ 52)) refl
     go true p true q =
         let k : a + 3 ≡ w = cc in
         ap l0Of (sym k) ∙ made (eqb-true (a % 4096) 0 p) (ltb-true a (2 ^ 52) q)
-    go true p false q = let z : _≡_ {A = ℕ} 0 1 = cc in absurd (omega arith)
-    go false p y q = let z : _≡_ {A = ℕ} 0 1 = cc in absurd (omega arith)
+    go true p false q = apart (cc)
+    go false p y q = apart (cc)

@@ -1,5 +1,4 @@
--- Document 01, "Words": what a word of the L0 table says, and the L0 words that are made.
--- Assumes nothing: these are definitions.
+-- Definitions of `l0`, after document 01, "Words": what a word of the L0 table says, and the L0 words that are made.
 use Prim.Native.Nat.{ℕ, _+_, _*_, _/_, _%_, _^_}
 use mathlib.Core.Bool.{cond, _&&_}
 use lib.Dec.{eqb, ltb}

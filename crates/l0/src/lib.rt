@@ -1,4 +1,4 @@
-// Words of the L0 table: what they say, and how they are made. From table.rs: the descriptors of L0, by value.
+// `l0`: words of the L0 table, what they say, and how they are made. From table.rs: the descriptors of L0, by value.
 ghost use mathlib.Core.Path.{_≡_};
 ghost use Rattle.l0.specs.L0.{l0Of, blockWord, tableWordOf};
 use gpi::Gpi;

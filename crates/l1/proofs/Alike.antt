@@ -1,20 +1,22 @@
--- `flat` and the granule store: what a word reads, and that two valid words are read alike exactly if their `flat` is one word.
--- Assumes nothing.
+-- Laws of `l1`: `flat` and the granule store, what a word reads, and that two valid words are read alike exactly if their `flat` is one
+-- word.
 use mathlib.Core.Path.{_≡_, refl, sym, ap, _∙_, subst}
 use mathlib.Core.Bool.{Bool, true, false}
 use Prim.Native.Nat.{ℕ, _%_, _^_, _<_}
-use native.Mathlib.Omega.{arith}
 use lib.ListN.{length, getD}
 use lib.Seq.{ext-getD}
 use Rattle.gpi.specs.declared.Gpi.{Gpi}
 use Rattle.gpi.specs.declared.Nibble.{Nibble}
-use Rattle.gpi.specs.declared.Nibble.the-variants.{Known, Reserved}
+use Rattle.gpi.specs.declared.Nibble.the-variants.{Known as Is, Reserved}
 use Rattle.gpi.specs.declared.Size.{Size}
 use Rattle.gpi.specs.Gpi.{num, gpiAt, isKnown, knownAt}
-use Rattle.gpi.proofs.Rules.{num-lt, num-at, gpi-num}
+use Rattle.gpi.proofs.Table.{apart}
+use Rattle.gpi.proofs.Rules.{num-lt, num-at, gpi-num, named}
 use Rattle.granules.specs.Nibs.{nib, nibs, word, all}
 use Rattle.granules.specs.Packed.{repeated, put}
-use Rattle.l1.specs.L1.{l1Of, granulesOf, readAt, readOf, contigWord, flat, flatOf}
+use Rattle.l1.specs.L1.{l1Of, granulesOf, readNibble, readAt, readOf, contigWord, flat, flatOf}
+use Rattle.l1.specs.declared.Reading.{Reading}
+use Rattle.l1.specs.declared.Reading.the-variants.{Known}
 use Rattle.l1.specs.declared.L1Entry.{L1Entry}
 use Rattle.l1.specs.declared.L1Entry.the-variants.{Contiguous, Granules, Invalid}
 use Rattle.granules.proofs.Digits.{length-nibs, getD-nibs, word-nibs, all-at, all-set}
@@ -66,15 +68,41 @@ flat-lt w h = go (l1Of w)
     go Granules = h
     go Invalid = h
 
--- every granule reads the same
+-- ---- what a granule reads
+
+abbrev pub entryReads : ℕ → ℕ → L1Entry → Reading
+entryReads w i e = readOf e w i
+
+abbrev pub numReads : ℕ → Reading
+numReads n = readNibble (gpiAt n)
+
+-- a GPI's number reads it, and no other number does
+pub reads-num : (g : Gpi) → numReads (num g) ≡ Known g
+reads-num g = ap readNibble (gpi-num g)
+
+num-reads : (n : ℕ) (g : Gpi) → numReads n ≡ Known g → n ≡ num g
+num-reads n g e = go (gpiAt n) refl e
+  where
+    go : (x : Nibble) → gpiAt n ≡ x → readNibble x ≡ Known g → n ≡ num g
+    go (Is h) p q = let r : h ≡ g = cc in num-at n h p ∙ ap num r
+    go Reserved p q = apart (cc)
+
+pub repeated-reads : (g : Gpi) (i : ℕ) → i < 16 → readAt (repeated (num g)) i ≡ Known g
+repeated-reads g i h =
+    ap (entryReads (repeated (num g)) i) (l1-repeated g) ∙ ap numReads (nib-repeated (num g) i (num-lt g) h) ∙ reads-num g
+
+-- every granule of the flat word reads the same
 pub flat-reads : (w i : ℕ) → i < 16 → readAt (flat w) i ≡ readAt w i
 flat-reads w i h = go (l1Of w) refl
   where
     go : (e : L1Entry) → l1Of w ≡ e → readAt (flatOf e w) i ≡ readOf e w i
-    go (Contiguous g s) p =
-        ap (λ (e : L1Entry). readOf e (repeated (num g)) i) (l1-repeated g) ∙ ap gpiAt (nib-repeated (num g) i (num-lt g) h) ∙ gpi-num g
-    go Granules p = ap (λ (e : L1Entry). readOf e w i) p
-    go Invalid p = ap (λ (e : L1Entry). readOf e w i) p
+    go (Contiguous g s) p = repeated-reads g i h
+    go Granules p = ap (entryReads w i) p
+    go Invalid p = ap (entryReads w i) p
+
+-- so words of one flat word read alike
+pub same-reading : (v w i : ℕ) → i < 16 → flat v ≡ flat w → readAt v i ≡ readAt w i
+same-reading v w i h e = sym (flat-reads v i h) ∙ ap (λ (x : ℕ). readAt x i) e ∙ flat-reads w i h
 
 -- ---- a granule store into a word of granules
 
@@ -83,42 +111,35 @@ module _ (w i : ℕ) (g : Gpi) (hi : i < 16) (t : l1Of w ≡ Granules) where
   pub put-granules : l1Of (put w i (num g)) ≡ Granules
   put-granules =
       l1-granules (put w i (num g))
-      (ap (all knownAt) (nibs-put w i (num g) hi (num-lt g)) ∙ all-set knownAt (nibs 16 w) i (num g) (ap isKnown (gpi-num g)) (granules-known w t))
+      (ap (all knownAt) (nibs-put w i (num g) hi (num-lt g))
+      ∙ all-set knownAt (nibs 16 w) i (num g) (ap isKnown (gpi-num g)) (granules-known w t))
 
   -- which reads g at the place
   pub put-reads : readAt (put w i (num g)) i ≡ Known g
-  put-reads =
-      ap (λ (e : L1Entry). readOf e (put w i (num g)) i) put-granules ∙ ap gpiAt (put-same w i (num g) hi (num-lt g)) ∙ gpi-num g
+  put-reads = ap (entryReads (put w i (num g)) i) put-granules ∙ ap numReads (put-same w i (num g) hi (num-lt g)) ∙ reads-num g
 
   -- and elsewhere what it read before
   pub put-keeps : (j : ℕ) → j < 16 → (j ≡ i → ⊥) → readAt (put w i (num g)) j ≡ readAt w j
   put-keeps j hj ne =
-      ap (λ (e : L1Entry). readOf e (put w i (num g)) j) put-granules
-      ∙ ap gpiAt (put-other w i (num g) hi (num-lt g) j hj ne) ∙ sym (ap (λ (e : L1Entry). readOf e w j) t)
+      ap (entryReads (put w i (num g)) j) put-granules
+      ∙ ap numReads (put-other w i (num g) hi (num-lt g) j hj ne) ∙ sym (ap (entryReads w j) t)
 
 -- ---- two valid words that read the same are flattened to one word
 
--- two nibbles that stand for one GPI are one
-known-same : (a b : ℕ) → knownAt a ≡ true → gpiAt a ≡ gpiAt b → a ≡ b
-known-same a b t e = go (gpiAt a) refl
-  where
-    go : (x : Nibble) → gpiAt a ≡ x → a ≡ b
-    go (Known g) p = num-at a g p ∙ sym (num-at b g (sym e ∙ p))
-    go Reserved p =
-        let q : false ≡ true = sym (ap isKnown p) ∙ t in
-        let z : _≡_ {A = ℕ} 0 1 = cc in
-        absurd (omega arith)
+-- two nibbles that read one GPI are one
+known-same : (a b : ℕ) → knownAt a ≡ true → numReads a ≡ numReads b → a ≡ b
+known-same a b t e = named _ a t (λ g p. p ∙ sym (num-reads b g (sym e ∙ ap numReads p ∙ reads-num g)))
 
 granules-same : (w v : ℕ) → w < 2 ^ 64 → v < 2 ^ 64 → l1Of w ≡ Granules → l1Of v ≡ Granules
     → ((i : ℕ) → i < 16 → readAt w i ≡ readAt v i) → w ≡ v
 granules-same w v hw hv gw gv same =
-    sym (word-nibs 16 w hw) ∙ ap word (ext-getD 0 (nibs 16 w) (nibs 16 v) (length-nibs 16 w ∙ sym (length-nibs 16 v)) one) ∙ word-nibs 16 v hv
+    sym (word-nibs 16 w hw)
+    ∙ ap word (ext-getD 0 (nibs 16 w) (nibs 16 v) (length-nibs 16 w ∙ sym (length-nibs 16 v)) one) ∙ word-nibs 16 v hv
   where
     one : (i : ℕ) → i < length (nibs 16 w) → getD (nibs 16 w) i 0 ≡ getD (nibs 16 v) i 0
     one i h =
         let k : i < 16 = subst (λ (n : ℕ). i < n) (length-nibs 16 w) h in
-        let r : gpiAt (nib w i) ≡ gpiAt (nib v i) =
-        sym (ap (λ (e : L1Entry). readOf e w i) gw) ∙ same i k ∙ ap (λ (e : L1Entry). readOf e v i) gv in
+        let r : numReads (nib w i) ≡ numReads (nib v i) = sym (ap (entryReads w i) gw) ∙ same i k ∙ ap (entryReads v i) gv in
         let t : knownAt (nib w i) ≡ true = ap knownAt (sym (getD-nibs 16 w i k)) ∙ all-at knownAt (nibs 16 w) i (granules-known w gw) h in
         getD-nibs 16 w i k ∙ known-same (nib w i) (nib v i) t r ∙ sym (getD-nibs 16 v i k)
 

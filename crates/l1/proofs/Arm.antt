@@ -1,47 +1,42 @@
--- The Arm format has the laws that the theory of tables asks for.
--- Assumes nothing.
+-- Laws of `l1`: the Arm format has the laws that the theory of tables asks for, and the code's words and tests are the theory's.
 use mathlib.Core.Path.{_≡_, refl, sym, ap, _∙_}
 use mathlib.Core.List.{List, _∷_, map}
 use mathlib.Core.Bool.{Bool, true, false, cond, _&&_}
+use mathlib.Core.Option.{Option, none, some}
 use Prim.Native.Nat.{ℕ, zero, suc, _%_, _^_, _<_}
 use native.Mathlib.Omega.{arith}
 use borrow.Author.Tests.{eqb-true, eqb-false, eq-eqb, ne-eqb}
 use lib.Dec.{lit<, eqb}
 use lib.ListN.{replicate}
 use Rattle.gpi.specs.declared.Gpi.{Gpi}
-use Rattle.gpi.specs.declared.Nibble.{Nibble}
-use Rattle.gpi.specs.declared.Nibble.the-variants.{Known, Reserved}
 use Rattle.gpi.specs.declared.Size.{Size}
 use Rattle.gpi.specs.declared.Size.the-variants.{MB2, MB32, MB512}
-use Rattle.gpi.specs.Gpi.{num, gpiAt, isKnown, knownAt}
-use Rattle.gpi.specs.Size.{sizeNum}
-use Rattle.gpi.proofs.Rules.{num-at, num-lt, size-lt}
-use Rattle.gpi.proofs.Table.{and-both}
-use Rattle.theory.specs.Format.{Laws, reads}
-use Rattle.granules.specs.Nibs.{nibs, word, all}
+use Rattle.gpi.specs.Gpi.{num, knownAt}
+use Rattle.gpi.specs.Size.{sizeNum, bytesOf}
+use Rattle.gpi.proofs.Rules.{num-lt, known-lt, named, size-lt, size-pos}
+use Rattle.gpi.proofs.Table.{apart, and-both}
+use Rattle.theory.specs.Format.{Laws, reads, reading}
+use Rattle.theory.specs.Normal.{span}
+use Rattle.theory.specs.Set.{bytes}
+use Rattle.granules.specs.Nibs.{nib, nibs, word, all}
 use Rattle.granules.specs.Packed.{repeated, put, granuleWord}
-use Rattle.l1.specs.L1.{l1Of, contigWord, flat, flatOf, matchAt, matchOf, sameOf}
+use Rattle.l1.specs.L1.{l1Of, readOf, readAt, contigWord, flat, flatOf, matchAt, matchOf, sameOf}
 use Rattle.l1.specs.Arm.{validOf, sizeOf, levelOf, contigAt, arm}
+use Rattle.l1.specs.declared.Reading.{Reading}
+use Rattle.l1.specs.declared.Reading.the-variants.{Known, Invalid as Unread}
 use Rattle.l1.specs.declared.Match.the-variants.{Same, Other, Bad}
 use Rattle.l1.specs.declared.L1Entry.{L1Entry}
 use Rattle.l1.specs.declared.L1Entry.the-variants.{Contiguous, Granules, Invalid}
 use Rattle.granules.proofs.Digits.{nibs-step, alike16, repeat16}
 use Rattle.granules.proofs.Store.{put-same, put-other}
-use Rattle.granules.proofs.Packed.{nib-repeated}
-use Rattle.l1.proofs.Entries.{granules-known, l1-contig}
-use Rattle.l1.proofs.Alike.{coarse, l1-flat, flat-idem, flat-contig, put-granules}
+use Rattle.granules.proofs.Packed.{nib-repeated, repeated-lt}
+use Rattle.l1.proofs.Entries.{granules-known, l1-contig, l1-repeated}
+use Rattle.l1.proofs.Alike.{coarse, l1-flat, flat-idem, entryReads, numReads, reads-num, repeated-reads, put-granules, reads-flat}
 
 -- ---- numbers that are known are those of GPIs, levels those of sizes
 
 pub gpi-of-known : (g : ℕ) → knownAt g ≡ true → (x : Gpi) × (g ≡ num x)
-gpi-of-known g k = go (gpiAt g) refl
-  where
-    go : (x : Nibble) → gpiAt g ≡ x → (y : Gpi) × (g ≡ num y)
-    go (Known y) e = (y, num-at g y e)
-    go Reserved e =
-        let p : false ≡ true = sym (ap isKnown e) ∙ k in
-        let z : _≡_ {A = ℕ} 0 1 = cc in
-        absurd (omega arith)
+gpi-of-known g k = named _ g k (λ x e. (x, e))
 
 size-of-level : (l : ℕ) → l < 3 → (s : Size) × (sizeNum s ≡ suc l)
 size-of-level zero h = (MB2, refl)
@@ -65,7 +60,7 @@ flat-granules w v = l1-flat w ∙ go (l1Of w) v
     go : (e : L1Entry) → validOf e ≡ true → coarse e ≡ Granules
     go (Contiguous g s) v = refl
     go Granules v = refl
-    go Invalid v = let z : _≡_ {A = ℕ} 0 1 = cc in absurd (omega arith)
+    go Invalid v = apart (cc)
 
 flat-of-granules : (w : ℕ) → l1Of w ≡ Granules → flat w ≡ w
 flat-of-granules w e = ap (λ (x : L1Entry). flatOf x w) e
@@ -84,7 +79,7 @@ flat-invalid : (w : ℕ) → validOf (l1Of w) ≡ false → flat w ≡ w
 flat-invalid w v = go (l1Of w) v
   where
     go : (e : L1Entry) → validOf e ≡ false → flatOf e w ≡ w
-    go (Contiguous g s) v = let z : _≡_ {A = ℕ} 0 1 = cc in absurd (omega arith)
+    go (Contiguous g s) v = apart (cc)
     go Granules v = refl
     go Invalid v = refl
 
@@ -135,13 +130,8 @@ module _ (w l : ℕ) where
 size-flat : (w : ℕ) → sizeOf (l1Of w) ≡ 0 → flat w ≡ w
 size-flat w e = go (l1Of w) e
   where
-    pos : (s : Size) → sizeNum s ≡ 0 → ⊥
-    pos MB2 e = omega arith
-    pos MB32 e = omega arith
-    pos MB512 e = omega arith
-
     go : (x : L1Entry) → sizeOf x ≡ 0 → flatOf x w ≡ w
-    go (Contiguous g s) e = absurd (pos s e)
+    go (Contiguous g s) e = let h = size-pos s in absurd (omega arith)
     go Granules e = refl
     go Invalid e = refl
 
@@ -154,10 +144,7 @@ size-of-flat w = ap sizeOf (l1-flat w) ∙ go (l1Of w)
     go Invalid = refl
 
 low-rep : (g : ℕ) → knownAt g ≡ true → repeated g % 16 ≡ g
-low-rep g k = let h = num-lt (gpi-of-known g k .0) in let e = gpi-of-known g k .1 in omega arith
-
-known-small : (g : ℕ) → knownAt g ≡ true → g < 16
-known-small g k = omega (arith, num-lt (gpi-of-known g k .0), gpi-of-known g k .1)
+low-rep g k = let h = known-lt g k in omega arith
 
 module _ (w j g : ℕ) (v : validOf (l1Of w) ≡ true) (h : j < 16) (k : knownAt g ≡ true) where
   put-entry : l1Of (put (flat w) j g) ≡ Granules
@@ -180,11 +167,11 @@ arm-laws =
       size-of-flat = size-of-flat;
       size-contig = size-made;
       low-rep = low-rep;
-      granule-rep = λ g j h k. nib-repeated g j (known-small g k) h;
+      granule-rep = λ g j h k. nib-repeated g j (known-lt g k) h;
       put-valid = λ w j g v h k. ap validOf (put-entry w j g v h k);
       put-flat = λ w j g v h k. flat-of-granules (put (flat w) j g) (put-entry w j g v h k);
-      put-same = λ w j g v h k. put-same (flat w) j g h (known-small g k);
-      put-other = λ w j g i v h k b n. put-other (flat w) j g h (known-small g k) i b n;
+      put-same = λ w j g v h k. put-same (flat w) j g h (known-lt g k);
+      put-other = λ w j g i v h k b n. put-other (flat w) j g h (known-lt g k) i b n;
     }
 
 -- ---- the code's words and tests as the theory's
@@ -194,6 +181,11 @@ level-num s = elim s [ MB2 ↦ refl | MB32 ↦ refl | MB512 ↦ refl ]
 
 pub level-lt : (s : Size) → levelOf s < 3
 level-lt s = elim s [ MB2 ↦ lit< tt | MB32 ↦ lit< tt | MB512 ↦ lit< tt ]
+
+-- the bytes of a size are those of its level
+pub level-bytes : (s : Size) → bytes (levelOf s) ≡ bytesOf s
+unfolding span
+level-bytes s = elim s [ MB2 ↦ refl | MB32 ↦ refl | MB512 ↦ refl ]
 
 -- the contiguous word of a size, and the word of one GPI sixteen times
 pub contig-arm : (s : Size) (g : Gpi) → contigWord s g ≡ arm .contig (levelOf s) (num g)
@@ -227,3 +219,38 @@ match-is w g h = go (l1Of w)
     go (Contiguous x s) = same (eqb (repeated (num x)) (repeated (num g))) (eqb (num x) (num g)) (repeated-eqb (num x) (num g))
     go Granules = same (eqb w (repeated (num g))) (all (eqb (num g)) (nibs 16 w)) (sym (alike16 w (num g) h (num-lt g)))
     go Invalid = refl
+
+-- what a granule reads, as the theory says it
+abbrev pub readingOf : Option ℕ → Reading
+readingOf (some n) = numReads n
+readingOf none = Unread
+
+pub read-is : (w n : ℕ) → n < 16 → readAt w n ≡ readingOf (reading arm w n)
+unfolding reading
+read-is w n h = go (l1Of w)
+  where
+    go : (e : L1Entry) → readOf e w n ≡ readingOf (cond (validOf e) (some (nib (flatOf e w) n)) none)
+    go (Contiguous g s) = sym (ap numReads (nib-repeated (num g) n (num-lt g) h) ∙ reads-num g)
+    go Granules = refl
+    go Invalid = refl
+
+-- a word of 64 bits that reads g in all sixteen granules
+pub reads-all : (v : ℕ) (g : Gpi) → v < 2 ^ 64 → ((n : ℕ) → n < 16 → readAt v n ≡ Known g) → reads arm v (num g) ≡ true
+unfolding reads
+reads-all v g b r = rw (valid (l1Of v) refl, eq-eqb (flat v) (repeated (num g)) same) refl
+  where
+    sound : l1Of v ≡ Invalid → ⊥
+    sound p = let z : Unread ≡ Known g = sym (ap (entryReads v 0) p) ∙ r 0 (lit< tt) in apart (cc)
+
+    valid : (e : L1Entry) → l1Of v ≡ e → validOf e ≡ true
+    valid (Contiguous h s) p = refl
+    valid Granules p = refl
+    valid Invalid p = absurd (sound p)
+
+    granules : l1Of (repeated (num g)) ≡ Invalid → ⊥
+    granules e = let z : Granules ≡ Invalid = sym (l1-repeated g) ∙ e in apart (cc)
+
+    same : flat v ≡ repeated (num g)
+    same =
+        reads-flat v (repeated (num g)) b (repeated-lt g) sound granules (λ n h. r n h ∙ sym (repeated-reads g n h))
+        ∙ flat-of-granules (repeated (num g)) (l1-repeated g)

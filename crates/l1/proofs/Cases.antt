@@ -1,13 +1,12 @@
--- Worked examples of the definitions, by computation alone: the L1 words of document 01's cases.
--- Assumes nothing.
+-- Worked examples of the definitions of `l1`, by computation alone: the L1 words of document 01's cases.
 use mathlib.Core.Path.{_≡_, refl}
 use Rattle.gpi.specs.declared.Gpi.the-variants.{Root, Realm}
-use Rattle.gpi.specs.declared.Nibble.the-variants.{Known, Reserved}
 use Rattle.gpi.specs.declared.Size.the-variants.{MB32, MB512}
 use Rattle.granules.specs.Nibs.{nibs, word}
 use Rattle.granules.specs.Packed.{put}
 use Rattle.l1.specs.L1.{l1Of, contigWord, flat, readAt, matchAt}
 use Rattle.l1.specs.declared.L1Entry.the-variants.{Contiguous, Granules, Invalid}
+use Rattle.l1.specs.declared.Reading.the-variants.{Known, Invalid as Unread}
 use Rattle.l1.specs.declared.Match.the-variants.{Same, Other, Bad}
 
 -- one opener for all of them
@@ -32,7 +31,7 @@ unfolding opened
 reserved = refl
 
 -- one reserved nibble, the highest, makes the lowest granule unread
-reserved-high : readAt 0x1AAA_AAAA_AAAA_AAAA 0 ≡ Reserved
+reserved-high : readAt 0x1AAA_AAAA_AAAA_AAAA 0 ≡ Unread
 unfolding opened
 reserved-high = refl
 

@@ -1,5 +1,4 @@
--- What an L1 word says: the kinds never meet, and a word that was made says what it was made of.
--- Assumes nothing.
+-- Laws of `l1`: what an L1 word says; the kinds never meet, and a word that was made says what it was made of.
 use mathlib.Core.Path.{_≡_, refl, sym, ap, ap₂, _∙_}
 use mathlib.Core.Bool.{Bool, true, false}
 use Prim.Native.Nat.{ℕ, zero, suc, _/_, _%_, _^_, _<_, _≤_}
@@ -16,6 +15,7 @@ use Rattle.gpi.specs.declared.SizeCode.{SizeCode}
 use Rattle.gpi.specs.declared.SizeCode.the-variants.{Is, None}
 use Rattle.gpi.specs.Gpi.{num, gpiAt, isKnown, knownAt}
 use Rattle.gpi.specs.Size.{sizeNum, sizeAt}
+use Rattle.gpi.proofs.Table.{apart}
 use Rattle.gpi.proofs.Rules.{num-lt, gpi-num, size-num, size-lt}
 use Rattle.granules.specs.Nibs.{nibs, all}
 use Rattle.granules.specs.Packed.{repeated}
@@ -34,6 +34,10 @@ pub l1-untagged : (w : ℕ) → (w % 16 ≡ 1 → ⊥) → l1Of w ≡ granulesOf
 unfolding l1Of
 l1-untagged w h = rw (ne-eqb (w % 16) 1 h)
 
+-- as the code asks it, by `granules::all_valid`
+pub l1-asked : (w : ℕ) {r b : Bool} → (w % 16 ≡ 1 → ⊥) → r ≡ all knownAt (nibs 16 w) → r ≡ b → l1Of w ≡ granulesOf b
+l1-asked w h e t = l1-untagged w h ∙ ap granulesOf (sym e ∙ t)
+
 -- a contiguous word with no size is invalid, and any other has some size
 pub l1-unsized : (w : ℕ) → w % 16 ≡ 1 → w % 1024 < 256 → l1Of w ≡ Invalid
 l1-unsized w t h =
@@ -45,7 +49,9 @@ l1-unsized w t h =
     none Reserved = refl
 
 pub l1-sized : (w : ℕ) → w % 16 ≡ 1 → 256 ≤ w % 1024 → (s : Size) × (l1Of w ≡ contiguousOf (gpiAt (w / 16 % 16)) (Is s))
-l1-sized w t h = let e = some (w / 256 % 4) (omega arith) (omega arith) in (e .0, l1-tagged w t ∙ ap (contiguousOf (gpiAt (w / 16 % 16))) (e .1))
+l1-sized w t h =
+    let e = some (w / 256 % 4) (omega arith) (omega arith) in
+    (e .0, l1-tagged w t ∙ ap (contiguousOf (gpiAt (w / 16 % 16))) (e .1))
   where
     some : (k : ℕ) → 1 ≤ k → k < 4 → (s : Size) × (sizeAt k ≡ Is s)
     some zero l h = absurd (omega arith)
@@ -57,9 +63,7 @@ l1-sized w t h = let e = some (w / 256 % 4) (omega arith) (omega arith) in (e .0
 -- nibble 1 is reserved, so the two kinds of word never meet
 low-known : (w : ℕ) → all knownAt (nibs 16 w) ≡ true → w % 16 ≡ 1 → ⊥
 low-known w t e =
-    let p : true ≡ false = sym t ∙ walk-miss knownAt 16 w (lit< tt) (ap knownAt e) in
-    let z : _≡_ {A = ℕ} 0 1 = cc in
-    omega arith
+    let p : true ≡ false = sym t ∙ walk-miss knownAt 16 w (lit< tt) (ap knownAt e) in apart (cc)
 
 -- a word is of granules exactly if all sixteen nibbles are known
 pub l1-granules : (w : ℕ) → all knownAt (nibs 16 w) ≡ true → l1Of w ≡ Granules
@@ -69,13 +73,13 @@ pub granules-known : (w : ℕ) → l1Of w ≡ Granules → all knownAt (nibs 16 
 granules-known w e = go (ℕ-discrete (w % 16) 1)
   where
     tagged : (x : Nibble) (c : SizeCode) → contiguousOf x c ≡ Granules → ⊥
-    tagged (Known g) (Is s) e = let z : _≡_ {A = ℕ} 0 1 = cc in omega arith
-    tagged (Known g) None e = let z : _≡_ {A = ℕ} 0 1 = cc in omega arith
-    tagged Reserved c e = let z : _≡_ {A = ℕ} 0 1 = cc in omega arith
+    tagged (Known g) (Is s) e = apart (cc)
+    tagged (Known g) None e = apart (cc)
+    tagged Reserved c e = apart (cc)
 
     all-of : (b : Bool) → granulesOf b ≡ Granules → b ≡ true
     all-of true e = refl
-    all-of false e = let z : _≡_ {A = ℕ} 0 1 = cc in absurd (omega arith)
+    all-of false e = apart (cc)
 
     go : Dec (w % 16 ≡ 1) → all knownAt (nibs 16 w) ≡ true
     go (yes h) = absurd (tagged (gpiAt (w / 16 % 16)) (sizeAt (w / 256 % 4)) (sym (l1-tagged w h) ∙ e))

@@ -1,5 +1,4 @@
--- Sixteen GPIs and a word of granules: what was made is one, and what was read back are its granules.
--- Assumes nothing.
+-- Laws of `l1`: sixteen GPIs and a word of granules. What was made is one, and what was read back are its granules.
 use mathlib.Core.Path.{_≡_, ap, _∙_}
 use mathlib.Core.List.{List, map}
 use Prim.Native.Nat.{ℕ, _^_, _<_}

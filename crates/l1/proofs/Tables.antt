@@ -1,6 +1,5 @@
--- The theory of tables at the Arm format: its theorems cited where a reader of document 01 looks for them, and its definitions worked on small
--- tables by computation alone. Two words are 2 MB here, as at 64 KB granules.
--- Assumes nothing.
+-- The theory of tables at the Arm format of `l1`: its theorems cited where a reader of document 01 looks for them, and its definitions
+-- worked on small tables by computation alone. Two words are 2 MB here, as at 64 KB granules.
 use mathlib.Core.Path.{_≡_, refl}
 use mathlib.Core.List.{List, [], _∷_, map}
 use Prim.Native.Nat.{ℕ, _<_, _≤_}

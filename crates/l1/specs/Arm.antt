@@ -1,7 +1,6 @@
--- The Arm format of L1 words as the theory of tables asks for it: its functions, from the definitions of `L1`. That they have the theory's laws
--- is shown in `proofs/Arm`.
--- Assumes nothing: these are definitions.
-use Prim.Native.Nat.{ℕ, _+_, _*_, _%_, _^_}
+-- Definitions of `l1`: the Arm format of L1 words, edition 1, as the theory of tables asks for it, from the definitions of `L1`. That its
+-- functions have the theory's laws is shown in `proofs/Arm`.
+use Prim.Native.Nat.{ℕ, _+_, _%_}
 use mathlib.Core.Bool.{Bool, true, false}
 use Rattle.gpi.specs.declared.Size.{Size}
 use Rattle.gpi.specs.declared.Size.the-variants.{MB2, MB32, MB512}
@@ -10,7 +9,7 @@ use Rattle.gpi.specs.Size.{sizeNum}
 use Rattle.theory.specs.Format.{Format}
 use Rattle.granules.specs.Nibs.{nib}
 use Rattle.granules.specs.Packed.{repeated, put}
-use Rattle.l1.specs.L1.{l1Of, flat}
+use Rattle.l1.specs.L1.{l1Of, contigOf, flat}
 use Rattle.l1.specs.declared.L1Entry.{L1Entry}
 use Rattle.l1.specs.declared.L1Entry.the-variants.{Contiguous, Granules, Invalid}
 
@@ -31,9 +30,9 @@ levelOf MB2 = 0
 levelOf MB32 = 1
 levelOf MB512 = 2
 
--- the contiguous word of a level (its size code less one) and a GPI's number: `contigWord` by numbers
+-- the contiguous word of a level, which is its size code less one
 abbrev pub contigAt : ℕ → ℕ → ℕ
-contigAt l g = (l + 1) * 2 ^ 8 + g * 2 ^ 4 + 1
+contigAt l g = contigOf (l + 1) g
 
 abbrev pub arm : Format
 arm =

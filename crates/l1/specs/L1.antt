@@ -1,5 +1,5 @@
--- Document 01, "Words": what a word of an L1 table says, the L1 words that are made, and `flat`, on which the theory of tables stands.
--- Assumes nothing: these are definitions.
+-- Definitions of `l1`, after document 01, "Words": what a word of an L1 table says, the L1 words that are made, and `flat`, on which the
+-- theory of tables stands.
 use Prim.Native.Nat.{ℕ, _+_, _*_, _/_, _%_, _^_}
 use mathlib.Core.Bool.{Bool, true, false, cond}
 use lib.Dec.{eqb}
@@ -15,6 +15,8 @@ use Rattle.granules.specs.Nibs.{nib, nibs, all}
 use Rattle.granules.specs.Packed.{repeated}
 use Rattle.l1.specs.declared.L1Entry.{L1Entry}
 use Rattle.l1.specs.declared.L1Entry.the-variants.{Contiguous, Granules, Invalid}
+use Rattle.l1.specs.declared.Reading.{Reading}
+use Rattle.l1.specs.declared.Reading.the-variants.{Known as Reads, Invalid as Unread}
 use Rattle.l1.specs.declared.Match.{Match}
 use Rattle.l1.specs.declared.Match.the-variants.{Same, Other, Bad}
 
@@ -36,13 +38,18 @@ l1Of w =
     cond (eqb (w % 16) 1) (contiguousOf (gpiAt (w / 2 ^ 4 % 2 ^ 4)) (sizeAt (w / 2 ^ 8 % 2 ^ 2)))
     (granulesOf (all knownAt (nibs 16 w)))
 
--- what granule i of a word reads: its GPI, or none where the word is invalid
-abbrev pub readOf : L1Entry → ℕ → ℕ → Nibble
-readOf (Contiguous g s) w i = Known g
-readOf Granules w i = gpiAt (nib w i)
-readOf Invalid w i = Reserved
+-- what a nibble reads; a word with a reserved one is invalid
+abbrev pub readNibble : Nibble → Reading
+readNibble (Known g) = Reads g
+readNibble Reserved = Unread
 
-abbrev pub readAt : ℕ → ℕ → Nibble
+-- what granule i of a word reads: its GPI, or nothing where the word is invalid
+abbrev pub readOf : L1Entry → ℕ → ℕ → Reading
+readOf (Contiguous g s) w i = Reads g
+readOf Granules w i = readNibble (gpiAt (nib w i))
+readOf Invalid w i = Unread
+
+abbrev pub readAt : ℕ → ℕ → Reading
 readAt w i = readOf (l1Of w) w i
 
 -- a word against a GPI, as a scan asks: "the first word that isn't all the new GPI (no match) or is invalid"
@@ -60,9 +67,12 @@ matchAt w g = matchOf (l1Of w) w g
 
 -- ---- words that are made
 
--- the contiguous word; "zero when written" of the higher bits
+-- the contiguous word of a size code and a GPI's number; "zero when written" of the higher bits
+abbrev pub contigOf : ℕ → ℕ → ℕ
+contigOf c g = c * 2 ^ 8 + g * 2 ^ 4 + 1
+
 abbrev pub contigWord : Size → Gpi → ℕ
-contigWord s g = sizeNum s * 2 ^ 8 + num g * 2 ^ 4 + 1
+contigWord s g = contigOf (sizeNum s) (num g)
 
 -- ---- flat: a contiguous word as the granule word that reads the same, any other word as it is
 

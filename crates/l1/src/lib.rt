@@ -1,9 +1,9 @@
-// Words of the L1 tables: what they say, and how they are made. From table.rs: the descriptors of L1, by value.
+// `l1`: words of the L1 tables, what they say, and how they are made. From table.rs: the descriptors of L1, by value.
 ghost use mathlib.Core.Path.{_≡_};
 ghost use Prim.Native.Nat.{_<_, _≤_};
 ghost use Rattle.theory.specs.Normal.{span as spanOf};
 ghost use Rattle.l1.specs.Arm.{levelOf};
-ghost use Rattle.l1.specs.L1.{l1Of, readAt, matchAt, contigWord, sameOf};
+ghost use Rattle.l1.specs.L1.{l1Of, readNibble, readAt, matchAt, contigWord, sameOf};
 ghost use Rattle.l1.specs.L1.{flat as flatAt};
 use gpi::Gpi;
 use gpi::Nibble;
@@ -14,6 +14,12 @@ use gpi::SizeCode;
 pub enum L1Entry {
     Contiguous(Gpi, Size),
     Granules,
+    Invalid,
+}
+
+// What a granule of a word reads: a GPI, or nothing where the word is invalid.
+pub enum Reading {
+    Known(Gpi),
     Invalid,
 }
 
@@ -49,21 +55,30 @@ pub fn contig(s: Size, g: Gpi) -> u64
     gpi::size_number(s) * 256 + gpi::number(g) * 16 + 1
 }
 
+fn read_nibble(n: Nibble) -> Reading
+    ensures { λ r. ⌜ r ≡ readNibble n ⌝ }
+{
+    match n {
+        Nibble::Known(g) => Reading::Known(g),
+        Nibble::Reserved => Reading::Invalid,
+    }
+}
+
 // What granule i of a word reads. Not by way of `l1_entry`: a lookup wants neither the size nor an entry in memory.
-pub fn read(w: u64, i: u64) -> Nibble
+pub fn read(w: u64, i: u64) -> Reading
     requires { ⌜ i < 16 ⌝ }
     ensures { λ r. ⌜ r ≡ readAt w i ⌝ }
 {
     if w % 16 == 1 {
         if w % 1024 < 256 {
-            return Nibble::Reserved;
+            return Reading::Invalid;
         }
-        return gpi::gpi_of((w / 16) % 16);
+        return read_nibble(gpi::gpi_of((w / 16) % 16));
     }
     if granules::all_valid(w) {
-        granules::gpi_at(w, i)
+        read_nibble(granules::gpi_at(w, i))
     } else {
-        Nibble::Reserved
+        Reading::Invalid
     }
 }
 
@@ -73,8 +88,8 @@ fn same(yes: bool) -> Match
     if yes { Match::Same } else { Match::Other }
 }
 
-// Whether a word reads this GPI throughout. Not by way of `l1_entry`: a scan wants neither the size nor an entry in memory, and asks the table of
-// nibbles only where the GPIs differ.
+// Whether a word reads this GPI throughout. Not by way of `l1_entry`: a scan wants neither the size nor an entry in memory, and asks the
+// table of nibbles only where the GPIs differ.
 pub fn matches_gpi(w: u64, g: Gpi) -> Match
     ensures { λ r. ⌜ r ≡ matchAt w g ⌝ }
 {

@@ -1,6 +1,5 @@
--- What `alignedDown` and `distanceOf` mean: the largest multiple, and the number that leads from one address to the other.
--- Assumes nothing.
-use mathlib.Core.Path.{_≡_, refl, sym, ap, _∙_}
+-- Laws of `pa`: what `alignedDown` and `distanceOf` mean, the largest multiple, and the number that leads from one address to the other.
+use mathlib.Core.Path.{_≡_, refl, ap, _∙_}
 use Prim.Native.Nat.{ℕ, _*_, _^_, _≤_, _<_}
 use native.Mathlib.Nat.{div-mul-le-self, le-div-iff-mul-le, mul-le-mul-right, mul-zero}
 use native.Mathlib.Decide.{decLt}

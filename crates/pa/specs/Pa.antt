@@ -1,6 +1,5 @@
--- Document 01, "Port order": addresses and their signed distance.
--- Assumes nothing: these are definitions.
-use mathlib.Core.Bool.{Bool, true, false, cond, _&&_}
+-- Definitions of `pa`, after document 01, "Port order": addresses and their signed distance.
+use mathlib.Core.Bool.{cond, _&&_}
 use Prim.Native.Nat.{ℕ, _*_, _/_, _^_}
 use lib.Dec.{ltb}
 use lib.IntN.{ℤ, pos, _-ℤ_}

@@ -1,4 +1,4 @@
-// A physical address of a type of its own, so that addresses and word indices can't be mixed. From gpt.rs: `PA`.
+// `pa`: a physical address of a type of its own, so that addresses and word indices can't be mixed. From gpt.rs: `PA`.
 ghost use mathlib.Core.Path.{_≡_};
 ghost use Rattle.pa.specs.Pa.{alignedDown, distanceOf};
 

@@ -1,12 +1,12 @@
--- What the readers of a table's view answer. An address is told by its distance d in bytes from the table's first; granules are of 2^width bytes.
--- Assumes nothing: these are definitions.
+-- Definitions of `view`: what the readers of a table's view answer. An address is told by its distance d in bytes from the table's first;
+-- granules are of 2^width bytes.
 use mathlib.Core.Bool.{Bool, cond, _&&_, _||_}
 use mathlib.Core.List.{List}
 use Prim.Native.Nat.{ℕ, _/_, _%_, _^_}
 use lib.Dec.{eqb, ltb}
 use lib.ListN.{length, getD}
-use Rattle.gpi.specs.declared.Nibble.{Nibble}
-use Rattle.gpi.specs.declared.Nibble.the-variants.{Known, Reserved}
+use Rattle.l1.specs.declared.Reading.{Reading}
+use Rattle.l1.specs.declared.Reading.the-variants.{Known, Invalid as Unread}
 use Rattle.l1.specs.L1.{readAt}
 use Rattle.view.specs.declared.Spot.{Spot}
 use Rattle.view.specs.declared.Spot.the-variants.{At, Outside as Nowhere}
@@ -31,9 +31,9 @@ abbrev pub seenAt : List ℕ → ℕ → ℕ → Seen
 seenAt t width d = seen t (spotOf (length t) width d)
 
 -- what a granule reads is `readAt` of its word, as a lookup has it
-abbrev pub heldBy : Nibble → Held
+abbrev pub heldBy : Reading → Held
 heldBy (Known g) = Holds g
-heldBy Reserved = Invalid
+heldBy Unread = Invalid
 
 abbrev pub held : List ℕ → Spot → Held
 held t (At i k) = heldBy (readAt (getD t i 0) k)

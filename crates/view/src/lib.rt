@@ -1,11 +1,11 @@
-// A read-only view of an L1 table: the caller's words and the granule width, with thin readers over covered functions. In the place of table.rs's
-// `GranuleDescriptorRef`. An address is told by its distance in bytes from the table's first.
+// `view`: a read-only view of an L1 table, the caller's words and the granule width, with thin readers over covered functions. In the place
+// of table.rs's `GranuleDescriptorRef`. An address is told by its distance in bytes from the table's first.
 ghost use mathlib.Core.Path.{_≡_};
 ghost use Prim.Native.Nat.{_<_};
 ghost use Rattle.l1.specs.L1.{readAt};
 ghost use Rattle.view.specs.Reads.{isWidth, spotOf, seenAt, heldBy, heldAt};
 use gpi::Gpi;
-use gpi::Nibble;
+use l1::Reading;
 
 pub struct View<'a> {
     pub words: &'a [u64],
@@ -73,8 +73,8 @@ fn held_by(w: u64, k: u64) -> Held
     ensures { λ r. ⌜ r ≡ heldBy (readAt w k) ⌝ }
 {
     match l1::read(w, k) {
-        Nibble::Known(g) => Held::Is(g),
-        Nibble::Reserved => Held::Invalid,
+        Reading::Known(g) => Held::Is(g),
+        Reading::Invalid => Held::Invalid,
     }
 }
 

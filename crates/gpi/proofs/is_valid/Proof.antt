@@ -1,5 +1,4 @@
 -- `gpi::is_valid` meets its contract: below 16 the table says it, and past the table every number is reserved.
--- Assumes nothing.
 use mathlib.Core.Path.{sym, ap}
 use borrow.Author.Needs.{needs}
 use Rattle.gpi.specs.Gpi.{isKnown}

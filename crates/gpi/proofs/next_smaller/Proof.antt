@@ -1,5 +1,4 @@
 -- `gpi::next_smaller` meets its contract: each arm is told which size it is.
--- Assumes nothing.
 use borrow.Author.Needs.{needs}
 use Rattle.gpi.proofs.next_smaller.Statement.{statement}
 use Rattle.gpi.proofs.next_smaller.Tie as tie

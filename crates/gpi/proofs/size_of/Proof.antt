@@ -1,5 +1,4 @@
 -- `gpi::size_of` meets its contract.
--- Assumes nothing.
 use mathlib.Core.Path.{_≡_, refl}
 use Prim.Native.Nat.{ℕ, zero, suc}
 use Rattle.gpi.specs.Size.{sizeAt}

@@ -1,5 +1,4 @@
 -- `granules::all_gpi` meets its contract. The invariant: what is left says the same as the whole.
--- Assumes nothing.
 use mathlib.Core.Path.{_≡_, sym, _∙_}
 use Prim.Native.Nat.{_%_, _≤_}
 use native.Mathlib.Omega.{arith}
@@ -32,9 +31,19 @@ returns c =
 
 returns-2 : tie.Need-returns-2 Inv-loop μ-loop
 returns-2 c =
-    rw (← c .before .before .number .ensures) (sym (c .before .loop .inv .1 ∙ walk-end _ (c .before .loop .n) (c .before .loop .v) (c .loop-test .left)))
+    let l = c .before .loop in
+    rw (← c .before .before .number .ensures) (sym (l .inv .1 ∙ walk-end _ (l .n) (l .v) (c .loop-test .left)))
 
 pub all-gpi-spec : {M : Type 1} → statement M
 all-gpi-spec =
     tie.close
-    (tie.spec Inv-loop μ-loop (λ c κs. search needs) (λ c. search needs) (λ c. search needs) (λ c. search needs) loop-again returns returns-2)
+    (tie.spec
+    Inv-loop
+    μ-loop
+    (λ c κs. search needs)
+    (λ c. search needs)
+    (λ c. search needs)
+    (λ c. search needs)
+    loop-again
+    returns
+    returns-2)

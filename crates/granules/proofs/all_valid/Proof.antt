@@ -1,5 +1,4 @@
 -- `granules::all_valid` meets its contract: the test by masks, of sixteen nibbles.
--- Assumes nothing.
 use Rattle.granules.specs.Nibs.{word}
 use Rattle.granules.proofs.Masks.{masks}
 use Rattle.granules.proofs.all_valid.Statement.{statement}

@@ -1,5 +1,4 @@
 -- `granules::gpi_at` meets its contract: a shift by four times i, and the low nibble.
--- Assumes nothing.
 use mathlib.Core.Path.{_∙_, ap}
 use borrow.Author.Needs.{needs}
 use Rattle.gpi.specs.Gpi.{gpiAt}

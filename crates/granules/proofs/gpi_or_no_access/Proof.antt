@@ -1,5 +1,4 @@
 -- `granules::gpi_or_no_access` meets its contract: what `gpi_of` answered picks the definition's case.
--- Assumes nothing.
 use mathlib.Core.Path.{sym, ap, _∙_}
 use borrow.Author.Needs.{needs}
 use Rattle.granules.specs.Packed.{orNoAccess}

@@ -1,5 +1,4 @@
 -- `granules::gpis` meets its contract. The invariant: the GPIs stored, and those of the nibbles left, are the word's.
--- Assumes nothing.
 use mathlib.Core.Path.{refl}
 use Prim.Native.Nat.{_-_}
 use native.Mathlib.Omega.{arith}
@@ -30,4 +29,13 @@ returns c = let l = c .before .loop in take-end _ (l .a) (l .v) (l .n) (c .loop-
 pub gpis-spec : {M : Type 1} → statement M
 gpis-spec =
     tie.close
-    (tie.spec Inv-loop μ-loop loop-holds (λ c κs. search needs) (λ c. omega arith) (λ c. search needs) (λ c. search needs) loop-again returns)
+    (tie.spec
+    Inv-loop
+    μ-loop
+    loop-holds
+    (λ c κs. search needs)
+    (λ c. omega arith)
+    (λ c. search needs)
+    (λ c. search needs)
+    loop-again
+    returns)

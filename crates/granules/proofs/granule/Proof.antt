@@ -1,7 +1,6 @@
 -- `granules::granule` meets its contract. The invariant: the word is that of the GPIs from n on.
--- Assumes nothing.
 use mathlib.Core.Path.{_≡_, sym, ap, _∙_}
-use Prim.Native.Nat.{ℕ, _+_, _-_, _*_, _≤_}
+use Prim.Native.Nat.{ℕ, _+_, _-_, _*_, _^_, _≤_, _<_}
 use native.Mathlib.Omega.{arith}
 use borrow.Author.Needs.{needs}
 use lib.ListN.{length, drop}
@@ -32,13 +31,15 @@ step c =
 loop-holds : tie.Need-loop-holds Inv-loop μ-loop
 loop-holds c = (search needs, sym (pack-none (c .args .t1) (long c)))
 
+-- the word after the step fits
+fits : (c : tie.After-number Inv-loop μ-loop) → c .number .result + c .before .before .before .loop .w * 16 < 2 ^ 64
+fits c = let b = c .before .before .before in rw (step c) (pack-lt (b .before .args .t1) (b .loop .n - 1) (long (b .before)))
+
 mul-w : tie.Need-mul-w Inv-loop μ-loop
-mul-w c =
-    omega (arith, step c, pack-lt (c .before .before .before .before .args .t1) (c .before .before .before .loop .n - 1) (long (c .before .before .before .before)))
+mul-w c = omega (arith, fits c)
 
 add-w : tie.Need-add-w Inv-loop μ-loop
-add-w c =
-    omega (arith, step c, pack-lt (c .before .before .before .before .args .t1) (c .before .before .before .loop .n - 1) (long (c .before .before .before .before)))
+add-w c = omega (arith, fits c)
 
 loop-again : tie.Need-loop-again Inv-loop μ-loop
 loop-again c = (omega arith, step c)
@@ -51,4 +52,15 @@ returns c =
 pub granule-spec : {M : Type 1} → statement M
 granule-spec =
     tie.close
-    (tie.spec Inv-loop μ-loop loop-holds (λ c. search needs) (λ c. search needs) (λ c κs. search needs) mul-w add-w (λ c. search needs) loop-again returns)
+    (tie.spec
+    Inv-loop
+    μ-loop
+    loop-holds
+    (λ c. search needs)
+    (λ c. search needs)
+    (λ c κs. search needs)
+    mul-w
+    add-w
+    (λ c. search needs)
+    loop-again
+    returns)

@@ -1,5 +1,4 @@
 -- `granules::set_gpi` meets its contract: what is taken away is the old nibble's share, what is added the new one's.
--- Assumes nothing.
 use mathlib.Core.Path.{_∙_, ap}
 use Prim.Native.Nat.{_<_}
 use native.Mathlib.Omega.{arith}
@@ -17,19 +16,34 @@ small c = omega (arith, num-lt (c .before .args .g))
 sub-result : tie.Need-sub-result
 sub-result c =
     let b = c .before in
-    omega (arith, taken (b .args .w) (b .args .i) 0 (b .fits .w .fits) (b .pre) (omega arith), nib-le (b .args .w) (b .args .i) (b .fits .w .fits) (b .pre))
+    let w = b .args .w in
+    let i = b .args .i in
+    omega (arith, taken w i 0 (b .fits .w .fits) (b .pre) (omega arith), nib-le w i (b .fits .w .fits) (b .pre))
 
 add-result : tie.Need-add-result
 add-result c =
     let b = c .before in
-    omega (arith, stored (b .args .w) (b .args .i) (c .number .result) (b .fits .w .fits) (b .pre) (small c), put-lt (b .args .w) (b .args .i) (c .number .result) (b .pre) (small c))
+    let w = b .args .w in
+    let i = b .args .i in
+    let x = c .number .result in
+    omega (arith, stored w i x (b .fits .w .fits) (b .pre) (small c), put-lt w i x (b .pre) (small c))
 
 returns : tie.Need-returns
 returns c =
     let b = c .before in
-    stored (b .args .w) (b .args .i) (c .number .result) (b .fits .w .fits) (b .pre) (small c) ∙ ap (put (b .args .w) (b .args .i)) (c .number .ensures)
+    let w = b .args .w in
+    let i = b .args .i in
+    stored w i (c .number .result) (b .fits .w .fits) (b .pre) (small c) ∙ ap (put w i) (c .number .ensures)
 
 pub set-gpi-spec : {M : Type 1} → statement M
 set-gpi-spec =
     tie.close
-    (tie.spec (λ c κs. search needs) (λ c. search needs) (λ c. search needs) (λ c. search needs) sub-result (λ c. search needs) add-result returns)
+    (tie.spec
+    (λ c κs. search needs)
+    (λ c. search needs)
+    (λ c. search needs)
+    (λ c. search needs)
+    sub-result
+    (λ c. search needs)
+    add-result
+    returns)

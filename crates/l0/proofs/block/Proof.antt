@@ -1,5 +1,4 @@
 -- `l0::block` meets its contract.
--- Assumes nothing.
 use native.Mathlib.Omega.{arith}
 use Rattle.gpi.proofs.Rules.{num-lt}
 use borrow.Author.Needs.{needs}

@@ -1,5 +1,4 @@
 -- `l1::contig` meets its contract.
--- Assumes nothing.
 use native.Mathlib.Omega.{arith}
 use Rattle.gpi.proofs.Rules.{num-lt, size-lt}
 use borrow.Author.Needs.{needs}

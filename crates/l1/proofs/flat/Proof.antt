@@ -1,15 +1,19 @@
 -- `l1::flat` meets its contract.
--- Assumes nothing.
-use mathlib.Core.Path.{sym, ap, _∙_}
-use Prim.Native.Nat.{ℕ, _*_}
+use mathlib.Core.Path.{_≡_, sym, ap, _∙_}
 use native.Mathlib.Omega.{arith}
 use Rattle.gpi.proofs.Rules.{num-lt}
-use Rattle.l1.specs.L1.{flatOf}
+use Rattle.granules.specs.Packed.{repeated}
+use Rattle.l1.specs.L1.{flat, flatOf}
 use Rattle.l1.specs.declared.L1Entry.{L1Entry}
 use Rattle.l1.proofs.Alike.{flat-untagged}
 use borrow.Author.Needs.{needs}
 use Rattle.l1.proofs.flat.Statement.{statement}
 use Rattle.l1.proofs.flat.Tie as tie
+
+-- the entry that was told is the word's
+told : (c : tie.After-l1-entry) {e : L1Entry} → c .l1-entry .result ≡ e
+    → flatOf e (c .before .before .args .w) ≡ flat (c .before .before .args .w)
+told c t = sym (ap (λ (e : L1Entry). flatOf e (c .before .before .args .w)) (sym (c .l1-entry .ensures) ∙ t))
 
 mul-result : tie.Need-mul-result
 mul-result c = omega (arith, num-lt (c .before .before .g .given .0 .0))
@@ -20,13 +24,13 @@ enum-told c = search needs
 returns : tie.Need-returns
 returns c =
     let p = c .before .before .before .before in
-    ap (λ (k : ℕ). k * 0x1111111111111111) (c .number .ensures) ∙ sym (ap (λ (e : L1Entry). flatOf e (p .before .before .args .w)) (sym (p .l1-entry .ensures) ∙ c .before .before .g .given .1))
+    ap repeated (c .number .ensures) ∙ told p (c .before .before .g .given .1)
 
 returns-2 : tie.Need-returns-2
-returns-2 c = let p = c .before .before in sym (ap (λ (e : L1Entry). flatOf e (p .before .before .args .w)) (sym (p .l1-entry .ensures) ∙ c .enum-told .given .1))
+returns-2 c = told (c .before .before) (c .enum-told .given .1)
 
 returns-3 : tie.Need-returns-3
-returns-3 c = let p = c .before .before in sym (ap (λ (e : L1Entry). flatOf e (p .before .before .args .w)) (sym (p .l1-entry .ensures) ∙ c .enum-told2 .given .1))
+returns-3 c = told (c .before .before) (c .enum-told2 .given .1)
 
 returns-4 : tie.Need-returns-4
 returns-4 c = flat-untagged _ (c .if1 .left)

@@ -1,8 +1,7 @@
 -- `l1::l1_entry` meets its contract: each way out has what the tests and the readers said.
--- Assumes nothing.
-use mathlib.Core.Path.{refl, sym, ap, ap₂, _∙_}
-use Rattle.l1.specs.L1.{contiguousOf, granulesOf}
-use Rattle.l1.proofs.Entries.{l1-tagged, l1-untagged}
+use mathlib.Core.Path.{refl, sym, ap₂, _∙_}
+use Rattle.l1.specs.L1.{contiguousOf}
+use Rattle.l1.proofs.Entries.{l1-tagged, l1-asked}
 use borrow.Author.Needs.{needs}
 use Rattle.l1.proofs.l1_entry.Statement.{statement}
 use Rattle.l1.proofs.l1_entry.Tie as tie
@@ -12,13 +11,17 @@ enum-told c = search needs
 
 returns : tie.Need-returns
 returns c =
-    sym (l1-tagged _ (c .before .before .before .before .before .before .before .before .if1 .taken)
-    ∙ ap₂ contiguousOf (sym (c .before .before .before .before .before .before .before .gpi-of .ensures) ∙ c .before .before .before .before .before .g .given .1) (sym (c .before .before .before .size-of .ensures) ∙ c .before .s .given .1))
+    let p = c .before .before .before in
+    let q = p .before .before in
+    sym (l1-tagged _ (q .before .before .before .if1 .taken)
+    ∙ ap₂ contiguousOf (sym (q .before .before .gpi-of .ensures) ∙ q .g .given .1) (sym (p .size-of .ensures) ∙ c .before .s .given .1))
 
 returns-2 : tie.Need-returns-2
 returns-2 c =
-    sym (l1-tagged _ (c .before .before .before .before .before .before .before .if1 .taken)
-    ∙ ap₂ contiguousOf (sym (c .before .before .before .before .before .before .gpi-of .ensures) ∙ c .before .before .before .before .g .given .1) (sym (c .before .before .size-of .ensures) ∙ c .enum-told .given .1))
+    let p = c .before .before in
+    let q = p .before .before in
+    sym (l1-tagged _ (q .before .before .before .if1 .taken)
+    ∙ ap₂ contiguousOf (sym (q .before .before .gpi-of .ensures) ∙ q .g .given .1) (sym (p .size-of .ensures) ∙ c .enum-told .given .1))
 
 returns-3 : tie.Need-returns-3
 returns-3 c =
@@ -26,10 +29,10 @@ returns-3 c =
     ∙ ap₂ contiguousOf (sym (c .before .before .gpi-of .ensures) ∙ c .enum-told2 .given .1) refl)
 
 returns-4 : tie.Need-returns-4
-returns-4 c = sym (l1-untagged _ (c .before .before .if1 .left) ∙ ap granulesOf (sym (c .before .all-valid .ensures) ∙ c .if2 .taken))
+returns-4 c = sym (l1-asked _ (c .before .before .if1 .left) (c .before .all-valid .ensures) (c .if2 .taken))
 
 returns-5 : tie.Need-returns-5
-returns-5 c = sym (l1-untagged _ (c .before .before .if1 .left) ∙ ap granulesOf (sym (c .before .all-valid .ensures) ∙ c .if2 .left))
+returns-5 c = sym (l1-asked _ (c .before .before .if1 .left) (c .before .all-valid .ensures) (c .if2 .left))
 
 pub l1-entry-spec : {M : Type 1} → statement M
 l1-entry-spec =

@@ -1,5 +1,4 @@
 -- `l1::matches_gpi` meets its contract: by the low nibble; a contiguous word matches by its GPI whatever its size, if it has both.
--- Assumes nothing.
 use mathlib.Core.Path.{_≡_, refl, sym, ap, _∙_}
 use mathlib.Core.Bool.{true, false}
 use Prim.Native.Nat.{ℕ, _/_, _%_, _≤_}
@@ -14,8 +13,8 @@ use Rattle.gpi.proofs.Rules.{gpi-num, named, unnamed}
 use Rattle.l1.specs.declared.L1Entry.{L1Entry}
 use Rattle.l1.specs.declared.Match.{Match}
 use Rattle.l1.specs.declared.Match.the-variants.{Same, Other, Bad}
-use Rattle.l1.specs.L1.{contiguousOf, granulesOf, matchOf, matchAt, sameOf}
-use Rattle.l1.proofs.Entries.{l1-unsized, l1-sized, l1-untagged}
+use Rattle.l1.specs.L1.{contiguousOf, matchOf, matchAt, sameOf}
+use Rattle.l1.proofs.Entries.{l1-unsized, l1-sized, l1-asked}
 use Rattle.l1.proofs.matches_gpi.Statement.{statement}
 use Rattle.l1.proofs.matches_gpi.Tie as tie
 
@@ -55,7 +54,8 @@ returns-3 c =
     let q = c .before .before in
     let p = q .before .before in
     let a = p .before .before .args in
-    miss (a .w) (a .g) (p .before .if1 .taken) (p .if2 .left) (λ e. q .if3 .left (e ∙ sym (q .before .number .ensures))) (sym (c .before .is-valid .ensures) ∙ c .if4 .taken)
+    miss (a .w) (a .g) (p .before .if1 .taken) (p .if2 .left) (λ e. q .if3 .left (e ∙ sym (q .before .number .ensures)))
+    (sym (c .before .is-valid .ensures) ∙ c .if4 .taken)
 
 returns-4 : tie.Need-returns-4
 returns-4 c =
@@ -66,11 +66,11 @@ returns-4 c =
 returns-5 : tie.Need-returns-5
 returns-5 c =
     let p = c .before .before in
-    rw (l1-untagged _ (p .before .before .if1 .left) ∙ ap granulesOf (sym (p .before .all-valid .ensures) ∙ p .if5 .taken))
+    rw (l1-asked _ (p .before .before .if1 .left) (p .before .all-valid .ensures) (p .if5 .taken))
     (c .same .ensures ∙ ap sameOf (c .before .all-gpi .ensures))
 
 returns-6 : tie.Need-returns-6
-returns-6 c = rw (l1-untagged _ (c .before .before .if1 .left) ∙ ap granulesOf (sym (c .before .all-valid .ensures) ∙ c .if5 .left)) refl
+returns-6 c = rw (l1-asked _ (c .before .before .if1 .left) (c .before .all-valid .ensures) (c .if5 .left)) refl
 
 pub matches-gpi-spec : {M : Type 1} → statement M
 matches-gpi-spec =

@@ -1,5 +1,4 @@
 -- `l1::span` meets its contract.
--- Assumes nothing.
 use mathlib.Core.Path.{refl}
 use native.Mathlib.Omega.{arith}
 use Rattle.theory.specs.Normal.{span}

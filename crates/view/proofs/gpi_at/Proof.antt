@@ -1,5 +1,4 @@
 -- `view::gpi_at` meets its contract.
--- Assumes nothing.
 use mathlib.Core.Path.{sym, _∙_}
 use native.Mathlib.Omega.{arith}
 use Rattle.view.proofs.Spots.{in-table}
@@ -8,19 +7,25 @@ use Rattle.view.proofs.gpi_at.Statement.{statement}
 use Rattle.view.proofs.gpi_at.Tie as tie
 
 mul-held-by : tie.Need-mul-held-by
-mul-held-by c = let h = in-table _ _ _ _ _ (sym (c .before .before .before .spot-at .ensures) ∙ c .before .i .given .1) in omega arith
+mul-held-by c = let h = in-table _ _ _ (c .before .before .before .spot-at .ensures) (c .before .i .given .1) in omega arith
 
 shared-slice-read-held-by : tie.Need-shared-slice-read-held-by
-shared-slice-read-held-by c = in-table _ _ _ _ _ (sym (c .before .before .before .before .spot-at .ensures) ∙ c .before .before .i .given .1) .0
+shared-slice-read-held-by c =
+    let p = c .before .before in
+    in-table _ _ _ (p .before .before .spot-at .ensures) (p .i .given .1) .0
 
 held-by-requires : tie.Need-held-by-requires
-held-by-requires c κs = in-table _ _ _ _ _ (sym (c .before .before .before .before .spot-at .ensures) ∙ c .before .before .i .given .1) .1
+held-by-requires c κs =
+    let p = c .before .before in
+    in-table _ _ _ (p .before .before .spot-at .ensures) (p .i .given .1) .1
 
 enum-told : tie.Need-enum-told
 enum-told c = search needs
 
 returns : tie.Need-returns
-returns c = rw (sym (c .before .before .before .before .before .spot-at .ensures) ∙ c .before .before .before .i .given .1) (c .held-by .ensures)
+returns c =
+    let p = c .before .before .before in
+    rw (sym (p .before .before .spot-at .ensures) ∙ p .i .given .1) (c .held-by .ensures)
 
 returns-2 : tie.Need-returns-2
 returns-2 c = rw (sym (c .before .before .spot-at .ensures) ∙ c .enum-told .given .1)

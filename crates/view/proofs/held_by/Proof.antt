@@ -1,5 +1,4 @@
 -- `view::held_by` meets its contract.
--- Assumes nothing.
 use mathlib.Core.Path.{sym, _∙_}
 use borrow.Author.Needs.{needs}
 use Rattle.view.proofs.held_by.Statement.{statement}

@@ -1,5 +1,4 @@
 -- `view::is_width` meets its contract.
--- Assumes nothing.
 use mathlib.Core.Path.{sym, ap}
 use Rattle.view.proofs.Spots.{no-width}
 use Rattle.view.specs.Reads.{isWidth}

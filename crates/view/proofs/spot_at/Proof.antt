@@ -1,5 +1,4 @@
 -- `view::spot_at` meets its contract.
--- Assumes nothing.
 use mathlib.Core.Path.{sym, _∙_}
 use native.Mathlib.Omega.{arith}
 use Rattle.view.proofs.Spots.{width-most, not-width, inside, behind}

@@ -1,5 +1,4 @@
 -- `view::word_at` meets its contract.
--- Assumes nothing.
 use mathlib.Core.Path.{sym, _∙_}
 use native.Mathlib.Omega.{arith}
 use Rattle.view.proofs.Spots.{in-table}
@@ -8,10 +7,12 @@ use Rattle.view.proofs.word_at.Statement.{statement}
 use Rattle.view.proofs.word_at.Tie as tie
 
 mul-t8 : tie.Need-mul-t8
-mul-t8 c = let h = in-table _ _ _ _ _ (sym (c .before .before .before .spot-at .ensures) ∙ c .before .i .given .1) in omega arith
+mul-t8 c = let h = in-table _ _ _ (c .before .before .before .spot-at .ensures) (c .before .i .given .1) in omega arith
 
 shared-slice-read-t10 : tie.Need-shared-slice-read-t10
-shared-slice-read-t10 c = in-table _ _ _ _ _ (sym (c .before .before .before .before .spot-at .ensures) ∙ c .before .before .i .given .1) .0
+shared-slice-read-t10 c =
+    let p = c .before .before in
+    in-table _ _ _ (p .before .before .spot-at .ensures) (p .i .given .1) .0
 
 enum-told : tie.Need-enum-told
 enum-told c = search needs

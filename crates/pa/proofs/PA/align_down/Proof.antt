@@ -1,7 +1,5 @@
--- `pa::align_down` meets its contract: the quotient times the divisor is no more than the number, and any quotient times 0 is 0.
--- Assumes nothing.
+-- `pa::PA::align_down` meets its contract: the quotient times the divisor is no more than the number, and any quotient times 0 is 0.
 use borrow.Author.Needs.{needs}
-use mathlib.Core.Path.{sym}
 use native.Mathlib.Nat.{div-mul-le-self, lt-of-le-of-lt, mul-zero}
 use Rattle.pa.proofs.PA.align_down.Statement.{statement}
 use Rattle.pa.proofs.PA.align_down.Tie as tie

@@ -1,5 +1,4 @@
--- `pa::sub` meets its contract: addresses below 2^52 are themselves as i64, and their difference fits.
--- Assumes nothing.
+-- `pa::PA::sub` meets its contract: addresses below 2^52 are themselves as i64, and their difference fits.
 use borrow.Author.Needs.{needs}
 use borrow.Author.Tests.{le-ltb, lt-ltb}
 use mathlib.Core.Path.{_≡_, sym, ap, subst, _∙_}
@@ -12,7 +11,6 @@ use lib.Signed.{mag}
 use mir.Syntax.{w64}
 use mir.Val.{SFits, toZ}
 use mir.ValLaws.{toZ-ofZ, toZ-pos}
-use Rattle.pa.specs.declared.Distance.{Distance}
 use Rattle.pa.specs.declared.Distance.the-variants.{Is, Refused}
 use Rattle.pa.specs.Pa.{distanceOf}
 use Rattle.pa.proofs.PA.sub.Statement.{statement}
