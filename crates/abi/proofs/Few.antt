@@ -6,14 +6,15 @@ use mathlib.Core.List.{List, _∷_, _++_}
 use Prim.Native.Nat.{ℕ, zero, suc, _+_, _≤_, _<_}
 use native.Mathlib.Omega.{arith}
 use lib.ListN.{length}
-use Rattle.gpi.specs.declared.Gpi.{Gpi}
 use Rattle.gpi.specs.declared.Nibble.{Nibble}
 use Rattle.gpi.specs.declared.Nibble.the-variants.{Known, Reserved}
 use Rattle.gpi.specs.Gpi.{num, gpiAt}
 use Rattle.theory.specs.Format.{Format, Laws, gpi}
 use Rattle.theory.specs.Normal.{at, span, normalWord}
 use Rattle.theory.specs.Events.{granule, count}
-use Rattle.theory.specs.Set.{Fused, nowhere, level, refused, barriers, breaks, broken, brokenBarriers, newWord, fusing, fused, storeEvents, setEvents}
+use Rattle.theory.specs.declared.Fused.{Fused}
+use Rattle.theory.specs.declared.Fused.the-variants.{Nowhere as Unfused, Level, Refused as Met}
+use Rattle.theory.specs.Set.{Target, barriers, breaks, broken, brokenBarriers, newWord, fusing, fused, storeEvents, setEvents}
 use Rattle.theory.proofs.Mend.{mendCount-is, differing-few}
 use Rattle.theory.proofs.Set.{at-most-13, count-append, count-fill, count-shatter, fusing-level}
 use Rattle.theory.proofs.Arena.{length-table}
@@ -21,7 +22,7 @@ use Rattle.config.specs.Format.{formatOf}
 use Rattle.config.proofs.Format.{format-laws}
 use Rattle.resolve.specs.declared.Site.{Site}
 use Rattle.resolve.specs.declared.Place.{Place}
-use Rattle.resolve.specs.declared.Place.the-variants.{No, Block, Table}
+use Rattle.resolve.specs.declared.Place.the-variants.{Refused as Nowhere, Block, Table}
 use Rattle.resolve.specs.declared.Refusal.{Refusal}
 use Rattle.resolve.specs.declared.Refusal.the-variants.{InvalidRequest, InvalidL1Entry}
 use Rattle.resolve.specs.declared.Call.the-variants.{Set}
@@ -29,9 +30,8 @@ use Rattle.resolve.specs.Lent.{Lent, placeFor, placed, tableIn}
 use Rattle.resolve.proofs.Numbers.{refusal-number}
 use Rattle.resolve.proofs.Found.{found}
 use Rattle.stores.specs.declared.Tally.{Tally}
-use Rattle.set_table.specs.Table.{answerOf}
 use Rattle.gpt.specs.declared.Changed.the-variants.{Refused}
-use Rattle.gpt.specs.Set.{changedBy, siteSet, setAt, setOf}
+use Rattle.gpt.specs.Set.{changedBy, targetAt, siteSet, setAt, setOf}
 use Rattle.mend.specs.declared.Named.{Named}
 use Rattle.mend.specs.declared.Named.the-variants.{At, Refused as Unnamed}
 use Rattle.mend.specs.Outcome.{namedBy, mendedAt, mendOf}
@@ -47,32 +47,35 @@ span-most u (suc zero) h b = omega arith
 span-most u (suc (suc zero)) h b = omega arith
 span-most u (suc (suc (suc l))) h b = omega arith
 
-module _ (F : Format) (L : Laws F) (u : ℕ) (h : u ≤ 32) (t : List ℕ) (i j g x b : ℕ) where
-  broken-few : count (broken F u t i ++ brokenBarriers x (F .size (at t i))) ≤ 8192
+module _ (F : Format) (L : Laws F) (u : ℕ) (h : u ≤ 32) (t : List ℕ) (q : Target) where
+  broken-few : count (broken F u t (q .word) ++ brokenBarriers (q .address) (F .size (at t (q .word)))) ≤ 8192
   unfolding broken breaks brokenBarriers count
-  broken-few = go (F .size (at t i)) refl
+  broken-few = go (F .size (at t (q .word))) refl
     where
-      go : (s : ℕ) → F .size (at t i) ≡ s → count (breaks F u (gpi F (at t i)) i s ++ brokenBarriers x s) ≤ 8192
+      go : (s : ℕ) → F .size (at t (q .word)) ≡ s → count (breaks F u (gpi F (at t (q .word))) (q .word) s ++ brokenBarriers (q .address) s) ≤ 8192
       go zero e = omega arith
-      go (suc l) e = simp (count-append, count-shatter F u (gpi F (at t i)) i l) (omega (arith, span-most u l h (L .size-small (at t i) l e)))
+      go (suc l) e =
+          simp (count-append, count-shatter F u (gpi F (at t (q .word))) (q .word) l)
+          (omega (arith, span-most u l h (L .size-small (at t (q .word)) l e)))
 
-  fused-few : count (fused F u g i (fusing F u t i j g)) ≤ 8192
+  fused-few : count (fused F u (q .gpi) (q .word) (fusing F u t q)) ≤ 8192
   unfolding fused count
-  fused-few = go (fusing F u t i j g) refl
+  fused-few = go (fusing F u t q) refl
     where
-      go : (f : Fused) → fusing F u t i j g ≡ f → count (fused F u g i f) ≤ 8192
-      go nowhere e = omega arith
-      go (level l) e = rw (count-fill _ (span u l) (F .contig l g)) (span-most u l h (fusing-level F u t i j g l e .0))
-      go refused e = omega arith
+      go : (f : Fused) → fusing F u t q ≡ f → count (fused F u (q .gpi) (q .word) f) ≤ 8192
+      go Unfused e = omega arith
+      go (Level l) e = rw (count-fill _ (span u l) (F .contig l (q .gpi))) (span-most u l h (fusing-level F u t q l e .0))
+      go (Met k) e = omega arith
 
-  store-few : count (granule i j (newWord F t i j g) ∷ barriers x b) ≡ 1
+  store-few : count (granule (q .word) (q .granule) (newWord F t q) ∷ barriers (q .address) (q .bytes)) ≡ 1
   unfolding count
   store-few = refl
 
-  stores-few : count (setEvents F u t i j g x b) ≤ 16385
+  stores-few : count (setEvents F u t q) ≤ 16385
   unfolding setEvents storeEvents
   stores-few =
-      rw (count-append _ (fused F u g i (fusing F u t i j g)), count-append _ (granule i j (newWord F t i j g) ∷ barriers x b))
+      rw (count-append _ (fused F u (q .gpi) (q .word) (fusing F u t q)),
+        count-append _ (granule (q .word) (q .granule) (newWord F t q) ∷ barriers (q .address) (q .bytes)))
       (omega (arith, broken-few, fused-few, store-few))
 
 -- ---- a set's
@@ -80,21 +83,21 @@ module _ (F : Format) (L : Laws F) (u : ℕ) (h : u ≤ 32) (t : List ℕ) (i j 
 none : (r : Refusal) → Small (Refused r)
 none r = record { number = omega (arith, refusal-number r .1); records = omega arith; stores = omega arith }
 
-by : (f : Fused) (t : Tally) → t .records ≤ 13 → t .stores ≤ 16385 → Small (changedBy (answerOf f t))
-by nowhere t p q = record { number = omega arith; records = p; stores = q }
-by (level l) t p q = record { number = omega arith; records = p; stores = q }
-by refused t p q = record { number = omega arith; records = p; stores = q }
+by : (f : Fused) (t : Tally) → t .records ≤ 13 → t .stores ≤ 16385 → Small (changedBy f t)
+by Unfused t p q = record { number = omega arith; records = p; stores = q }
+by (Level l) t p q = record { number = omega arith; records = p; stores = q }
+by (Met k) t p q = record { number = omega arith; records = p; stores = q }
 
-at-site : (q : Lent) (L : List ℕ) (s : Site) → s .unit ≤ 32 → (x : ℕ) (h : Gpi) → Small (siteSet q L s x h .answer)
+at-site : (q : Lent) (L : List ℕ) (s : Site) → s .unit ≤ 32 → (x g : ℕ) → Small (siteSet q L s x g .answer)
 unfolding siteSet
-at-site q L s u x h = go (formatOf (q .config) .valid (at (tableIn q s) (s .index))) refl
+at-site q L s u x g = go (formatOf (q .config) .valid (at (tableIn q s) (s .index))) refl
   where
-    go : (v : Bool) → formatOf (q .config) .valid (at (tableIn q s) (s .index)) ≡ v → Small (siteSet q L s x h .answer)
+    go : (v : Bool) → formatOf (q .config) .valid (at (tableIn q s) (s .index)) ≡ v → Small (siteSet q L s x g .answer)
     go true v =
         rw v
-        (by (fusing (formatOf (q .config)) (s .unit) (tableIn q s) (s .index) (s .granule) (num h)) _
-        (at-most-13 (formatOf (q .config)) (format-laws (q .config)) (s .unit) (tableIn q s) (s .index) (s .granule) (num h) x (s .grain))
-        (stores-few (formatOf (q .config)) (format-laws (q .config)) (s .unit) u (tableIn q s) (s .index) (s .granule) (num h) x (s .grain)))
+        (by (fusing (formatOf (q .config)) (s .unit) (tableIn q s) (targetAt s x g)) _
+        (at-most-13 (formatOf (q .config)) (format-laws (q .config)) (s .unit) (tableIn q s) (targetAt s x g))
+        (stores-few (formatOf (q .config)) (format-laws (q .config)) (s .unit) u (tableIn q s) (targetAt s x g)))
     go false v = rw v (none InvalidL1Entry)
 
 pub set-small : (q : Lent) (L : List ℕ) (x g : ℕ) → Small (setOf q L x g .answer)
@@ -102,10 +105,10 @@ unfolding setOf setAt
 set-small q L x g = go (gpiAt g) (placeFor q (Set (length L) (gpiAt g)) x) refl
   where
     go : (n : Nibble) (p : Place) → placeFor q (Set (length L) (gpiAt g)) x ≡ p → Small (setAt q L x n p .answer)
-    go n (No r) e = none r
+    go n (Nowhere r) e = none r
     go n (Block h) e = none InvalidRequest
     go Reserved (Table s) e = none InvalidRequest
-    go (Known h) (Table s) e = at-site q L s (found q _ x s e .1 .sited .unit-most) x h
+    go (Known h) (Table s) e = at-site q L s (found q _ x s e .1 .sited .unit-most) x (num h)
 
 -- ---- a mend's
 
@@ -120,7 +123,7 @@ mend-small q x k = go (namedBy (placed q x)) refl
         omega (
           arith,
           h .most,
-          table-length (s .start) (s .words) (q .arena) (h .fits),
+          length-table (s .start) (s .words) (q .arena) (h .fits),
           mendCount-is (formatOf (q .config)) (s .unit) k (tableIn q s),
           differing-few (at (tableIn q s)) (normalWord (formatOf (q .config)) (s .unit) (at (tableIn q s))) 0 (length (tableIn q s)),
         )

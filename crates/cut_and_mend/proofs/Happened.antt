@@ -18,7 +18,7 @@ use Rattle.l1.specs.Arm.{arm}
 use Rattle.config.specs.declared.Config.{Config}
 use Rattle.resolve.specs.declared.Site.{Site}
 use Rattle.resolve.specs.declared.Place.{Place}
-use Rattle.resolve.specs.declared.Place.the-variants.{No, Block, Table}
+use Rattle.resolve.specs.declared.Place.the-variants.{Refused as Nowhere, Block, Table}
 use Rattle.resolve.specs.declared.Refusal.{Refusal}
 use Rattle.resolve.specs.declared.Refusal.the-variants.{InvalidRequest, InvalidL1Entry}
 use Rattle.resolve.specs.Refusals.{refusalNumber}
@@ -73,7 +73,7 @@ module _ (c : Config) (L A : List ℕ) (b : ℕ) (log : List ℕ) (x g : ℕ) wh
     where
       go : (n : Nibble) → gpiAt g ≡ n → (p : Place) → placeOf (asking c A b log x (gpiAt g)) L ≡ p
           → Answers0or10 (changedNumber (setAt x A log n p .answer)) → Happened c L A b log x g (setAt x A log (gpiAt g) (placeOf (asking c A b log x (gpiAt g)) L))
-      go n e (No r) f a = absurd (no-refusal r a)
+      go n e (Nowhere r) f a = absurd (no-refusal r a)
       go n e (Block h) f a = absurd (no-refusal InvalidRequest a)
       go (Known h) e (Table s) f a = record { site = s; gpi = h; place = f; known = e; made = rw (f, e) (at-site s x h A log a) }
       go Reserved e (Table s) f a = absurd (no-refusal InvalidRequest a)

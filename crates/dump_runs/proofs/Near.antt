@@ -12,7 +12,7 @@ use Rattle.config.specs.Fields.{Listed}
 use Rattle.config.specs.Index.{l0Index, l1Index, granuleIndex, l1Words}
 use Rattle.config.proofs.Bounds.{listed-widths}
 use Rattle.resolve.specs.declared.Place.{Place}
-use Rattle.resolve.specs.declared.Place.the-variants.{No, Block, Table}
+use Rattle.resolve.specs.declared.Place.the-variants.{Refused as Nowhere, Block, Table}
 use Rattle.resolve.specs.declared.Refusal.the-variants.{OutsideArena}
 use Rattle.resolve.specs.Refusals.{outside}
 use Rattle.resolve.specs.declared.Call.the-variants.{Plain}
@@ -27,7 +27,7 @@ use Rattle.dump_runs.proofs.Stretch.{lastOf, last-from, last-same, last
 
 -- the bits of the aligned stretch that a place speaks for
 abbrev bitsOf : Widths → Place → ℕ
-bitsOf w (No r) = w .l0gptsz
+bitsOf w (Nowhere r) = w .l0gptsz
 bitsOf w (Block g) = w .l0gptsz
 bitsOf w (Table s) = w .pgs
 
@@ -43,7 +43,7 @@ module _ (Q : Lent) (w : Widths) (o : Open Q w) where
   word x = l0Of (getD (Q .l0) (l0Index w x) 0)
 
   abbrev entry : ℕ → L0Entry → Place
-  entry x e = entered e (λ t. cond (outside (Q .base) (length (Q .arena)) t (l1Words w)) (No OutsideArena) (Table (siteOf (askOf Q Plain x) w t)))
+  entry x e = entered e (λ t. cond (outside (Q .base) (length (Q .arena)) t (l1Words w)) (Nowhere OutsideArena) (Table (siteOf (askOf Q Plain x) w t)))
 
   placed-by : (x : ℕ) → x < total w → placeFor Q Plain x ≡ entry x (word x)
   unfolding placeOf
@@ -66,7 +66,7 @@ module _ (Q : Lent) (w : Widths) (o : Open Q w) where
         let k = listed in
         let i : l0Index w x ≡ l0Index w a = placed a x (w .pgs) e (w .l0gptsz) (w .pps) (omega arith) (omega arith) in
         placed-by x l
-        ∙ (λ j. entered (l0Of (getD (Q .l0) (i j) 0)) (λ t. cond (outside (Q .base) (length (Q .arena)) t (l1Words w)) (No OutsideArena) (Table (same-site e t j))))
+        ∙ (λ j. entered (l0Of (getD (Q .l0) (i j) 0)) (λ t. cond (outside (Q .base) (length (Q .arena)) t (l1Words w)) (Nowhere OutsideArena) (Table (same-site e t j))))
         ∙ sym (placed-by a h)
 
     -- one L0 entry, whose stretch is asked for where it is no table
@@ -78,7 +78,7 @@ module _ (Q : Lent) (w : Widths) (o : Open Q w) where
         i : l0Index w x ≡ l0Index w a
         i = let k = listed in placed a x (w .l0gptsz) e (w .l0gptsz) (w .pps) (omega arith) (omega arith)
 
-        table : (t : ℕ) (q : Bool) → cond q (No OutsideArena) (Table (siteOf (askOf Q Plain a) w t)) ≡ p → cond q (No OutsideArena) (Table (siteOf (askOf Q Plain x) w t)) ≡ p
+        table : (t : ℕ) (q : Bool) → cond q (Nowhere OutsideArena) (Table (siteOf (askOf Q Plain a) w t)) ≡ p → cond q (Nowhere OutsideArena) (Table (siteOf (askOf Q Plain x) w t)) ≡ p
         table t true q = q
         table t false q = absurd (let y : w .pgs ≡ w .l0gptsz = ap (bitsOf w) q ∙ g in omega arith)
 
@@ -90,13 +90,13 @@ module _ (Q : Lent) (w : Widths) (o : Open Q w) where
   -- ---- a piece
 
   bits-most : (p : Place) → bitsOf w p ≤ w .pps
-  bits-most (No r) = listed .wide
+  bits-most (Nowhere r) = listed .wide
   bits-most (Block g) = listed .wide
   bits-most (Table s) = let k = listed in omega arith
 
   module _ (a : ℕ) (h : a < total w) where
     same-place : (x : ℕ) → a ≤ x → x < total w → (p : Place) → placeFor Q Plain a ≡ p → x ≤ lastOf a (bitsOf w p) → placeFor Q Plain x ≡ p
-    same-place x i l (No r) f j = let k = listed in same-entry a x h l (last-same a (w .l0gptsz) x i j) (No r) f refl (omega arith)
+    same-place x i l (Nowhere r) f j = let k = listed in same-entry a x h l (last-same a (w .l0gptsz) x i j) (Nowhere r) f refl (omega arith)
     same-place x i l (Block g) f j = let k = listed in same-entry a x h l (last-same a (w .l0gptsz) x i j) (Block g) f refl (omega arith)
     same-place x i l (Table s) f j = same-granule a x h l (last-same a (w .pgs) x i j) ∙ f
 

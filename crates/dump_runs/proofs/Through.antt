@@ -2,8 +2,8 @@
 use mathlib.Core.Path.{_≡_, refl, sym, ap, ap₂, _∙_, subst}
 use Prim.Native.Nat.{ℕ, _%_, _^_}
 use lib.ListN.{getD, take, drop}
-use Rattle.gpi.specs.declared.Nibble.{Nibble}
-use Rattle.gpi.specs.declared.Nibble.the-variants.{Known, Reserved}
+use Rattle.l1.specs.declared.Reading.{Reading}
+use Rattle.l1.specs.declared.Reading.the-variants.{Known, Invalid}
 use Rattle.l1.specs.L1.{readAt}
 use Rattle.config.specs.declared.Config.{Config}
 use Rattle.config.specs.declared.Widths.{Widths}
@@ -23,9 +23,9 @@ use Rattle.view.proofs.Spots.{taken-width, held-of-address}
 use Rattle.dump_runs.specs.Runs.{answerOf}
 
 -- a granule's answer by what the view holds
-by-nibble : (c : Config) (n : Nibble) → answerOf c (heldBy n) ≡ judged c n
-by-nibble c (Known g) = refl
-by-nibble c Reserved = refl
+by-reading : (c : Config) (r : Reading) → answerOf c (heldBy r) ≡ judged c r
+by-reading c (Known g) = refl
+by-reading c Invalid = refl
 
 module _ (q : Lent) (x : ℕ) (w : Widths) (o : configuredOf (q .config) ≡ Taken w) (s : Site) (e : placed q x ≡ Table s) where
   here : Found q x w s
@@ -41,7 +41,7 @@ module _ (q : Lent) (x : ℕ) (w : Widths) (o : configuredOf (q .config) ≡ Tak
       let f = here in
       let t = tableIn q s in
       rw e (ap (answerOf (q .config)) (held-of-address w (f .listed) (taken-width (q .config) w o) t (table-length f ∙ f .words) x)
-      ∙ by-nibble (q .config) (readAt (getD t (l1Index w x) 0) (granuleIndex w x))
+      ∙ by-reading (q .config) (readAt (getD t (l1Index w x) 0) (granuleIndex w x))
       ∙ ap₂ (λ (m h : ℕ). judged (q .config) (readAt (getD t m 0) h)) (sym (f .index)) (sym (f .granule)))
 
   -- as `piece_at` has it: the table's length and the distance as they were computed

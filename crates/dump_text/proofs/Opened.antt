@@ -15,7 +15,7 @@ use Rattle.config.specs.declared.Configured.the-variants.{Ok, InvalidConfigurat
 use Rattle.config.specs.Fields.{configuredOf}
 use Rattle.config.specs.Index.{l0Entries}
 use Rattle.resolve.specs.declared.Place.{Place}
-use Rattle.resolve.specs.declared.Place.the-variants.{No}
+use Rattle.resolve.specs.declared.Place.the-variants.{Refused as Nowhere}
 use Rattle.resolve.specs.declared.Refusal.the-variants.{FewL0Words, BadArena}
 use Rattle.resolve.specs.Refusals.{arenaBad}
 use Rattle.resolve.specs.Place.{located, placeOf, configured}
@@ -35,7 +35,7 @@ module _ (c : Config) (L A : List ℕ) (b : ℕ) (w : Widths) where
   fine e f = go _ (ltb (length L) (l0Entries w)) refl (arenaBad b (length A)) refl (rw e at f)
     where
       go : (r : Place) (p : Bool) → ltb (length L) (l0Entries w) ≡ p → (q : Bool) → arenaBad b (length A) ≡ q
-          → shuts (lookedNumber (lookedAt c A (cond p (No FewL0Words) (cond q (No BadArena) r)))) ≡ false → Open c L A b w
+          → shuts (lookedNumber (lookedAt c A (cond p (No FewL0Words) (cond q (Nowhere BadArena) r)))) ≡ false → Open c L A b w
       go r true g q h z = apart (cc)
       go r false g true h z = apart (cc)
       go r false g false h z = record { configured = e; enough = ltb-false _ _ g; arena = h }

@@ -5,12 +5,12 @@ use mathlib.Core.List.{List}
 use Prim.Native.Nat.{ℕ}
 use lib.ListN.{length}
 use Rattle.gpi.specs.declared.Gpi.{Gpi}
-use Rattle.gpi.specs.declared.Nibble.the-variants.{Known}
+use Rattle.l1.specs.declared.Reading.the-variants.{Known}
 use Rattle.config.specs.Fields.{supportedOf}
 use Rattle.resolve.specs.declared.Call.the-variants.{Plain}
 use Rattle.resolve.specs.declared.Site.{Site}
 use Rattle.resolve.specs.declared.Place.{Place}
-use Rattle.resolve.specs.declared.Place.the-variants.{No, Block, Table}
+use Rattle.resolve.specs.declared.Place.the-variants.{Refused as Nowhere, Block, Table}
 use Rattle.resolve.specs.Lent.{Lent, over, placed}
 use Rattle.resolve.proofs.Found.{over-place}
 use Rattle.gpt.specs.declared.Looked.the-variants.{Ok}
@@ -25,7 +25,7 @@ module _ (q : Lent) (x : ℕ) where
   same-answer A e same = ap (lookedAt (over q A)) (over-place q A e Plain x) ∙ go (placed q x) refl
     where
       go : (p : Place) → placed q x ≡ p → lookedAt (over q A) p ≡ lookedAt q p
-      go (No r) f = refl
+      go (Nowhere r) f = refl
       go (Block g) f = refl
       go (Table s) f = ap (judged (q .config)) (same s f)
 

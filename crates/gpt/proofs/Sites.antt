@@ -1,13 +1,20 @@
 -- A set at a place of the arena, over plain lists: what the table's set asks is there, and what it made in the table is made in the arena.
-use mathlib.Core.Path.{_≡_, refl, ap, _∙_}
+use mathlib.Core.Path.{_≡_, refl, ap, ap₂, _∙_}
 use mathlib.Core.Bool.{Bool, true, false}
 use mathlib.Core.List.{List}
 use Prim.Native.Nat.{ℕ, _+_, _*_, _≤_}
+use native.Mathlib.Nat.{zero-add}
 use native.Mathlib.Omega.{arith}
 use borrow.Rule.Slice.PartMut.{put-same}
 use lib.ListN.{length}
 use Rattle.gpi.specs.declared.Gpi.{Gpi}
+use Rattle.gpi.specs.Gpi.{num}
 use Rattle.theory.specs.Normal.{at, span}
+use Rattle.theory.specs.declared.Fused.{Fused}
+use Rattle.theory.specs.declared.Fused.the-variants.{Nowhere, Level, Refused as Met}
+use Rattle.theory.specs.Stores.{apply}
+use Rattle.theory.specs.Events.{Event, stores, count, records, logged}
+use Rattle.theory.specs.Set.{fusing}
 use Rattle.theory.specs.Arena.{tableAt, laid}
 use Rattle.theory.proofs.Arena.{length-table}
 use Rattle.l1.specs.Arm.{arm}
@@ -15,12 +22,15 @@ use Rattle.config.specs.declared.Config.{Config}
 use Rattle.resolve.specs.declared.Site.{Site}
 use Rattle.resolve.specs.Sited.{Sited}
 use Rattle.resolve.specs.Lent.{lent}
+use Rattle.stores.specs.declared.Tally.{Tally}
+use Rattle.stores.specs.Done.{Room, fresh}
 use Rattle.set_table.specs.declared.Answer.{Answer}
-use Rattle.stores.specs.Done.{Room, fresh, Placed}
-use Rattle.set_table.specs.Table.{setTableOf}
+use Rattle.set_table.specs.Inner.{Placed}
+use Rattle.set_table.specs.Table.{answerOf, happens, answers}
 use Rattle.set_table.specs.Table.{Made as TableMade}
 use Rattle.gpt.specs.declared.Changed.{Changed}
-use Rattle.gpt.specs.Set.{Made, changedBy, jobOf, siteSet}
+use Rattle.gpt.specs.Inner.{changedOf, setOn}
+use Rattle.gpt.specs.Set.{Made, changedBy, tallyOf, targetAt, siteEvents, siteSet}
 
 span-most : (u : ℕ) → u ≤ 32 → span u 2 ≤ 8192
 unfolding span
@@ -31,7 +41,7 @@ module _ (A L : List ℕ) {s : Site} (x : ℕ) (g : Gpi) (h : Sited (length A) s
   table = tableAt (s .start) (s .words) A
 
   long : length (tableAt (s .start) (s .words) A) ≡ s .words
-  long = table-length (s .start) (s .words) A (h .fits)
+  long = length-table (s .start) (s .words) A (h .fits)
 
   pub placed : Placed table (s .index) (s .unit)
   placed =
@@ -51,20 +61,42 @@ module _ (A L : List ℕ) {s : Site} (x : ℕ) (g : Gpi) (h : Sited (length A) s
         few = omega (arith, span-most (s .unit) (h .unit-most));
       }
 
+  -- the answer by what the scans came to, and the tally of events that started from none
+  answer-is : (f : Fused) (es : List Event) (a : Tally) → a .records ≡ length es → a .stores ≡ count es → changedOf (answerOf f a) ≡ changedBy f (tallyOf es)
+  answer-is f es a e d = ap (λ (t : Tally). changedOf (answerOf f t)) same ∙ by f (tallyOf es)
+    where
+      same : a ≡ tallyOf es
+      same = ap₂ (λ (m n : ℕ). record { records = m; stores = n }) e d
+
+      by : (f : Fused) (t : Tally) → changedOf (answerOf f t) ≡ changedBy f t
+      by Nowhere t = refl
+      by (Level l) t = refl
+      by (Met k) t = refl
+
   -- what the set of the table made is what the set of the site makes
-  pub made : {p L′ : List ℕ} {a : Answer} {r : Changed} → TableMade (setTableOf (jobOf s x g) table L) a p L′ → r ≡ changedBy a
-      → (c : Config) (l : List ℕ) (b : ℕ) → Made (siteSet (lent c l A b) L s x g) r (laid (s .start) (s .words) A p) L′
-  unfolding siteSet setTableOf
+  pub made : {p L′ : List ℕ} {a : Answer} {r : Changed}
+      → TableMade (s .start) (happens (setOn s x g) table) (answers (setOn s x g) table) table p L L′ fresh a → r ≡ changedOf a
+      → (c : Config) (l : List ℕ) (b : ℕ) → Made (siteSet (lent c l A b) L s x (num g)) r (laid (s .start) (s .words) A p) L′
+  unfolding siteSet apply stores logged records
   made {p} {L′} {a} {r} m e c l b = go (arm .valid (at table (s .index))) refl
     where
-      go : (v : Bool) → arm .valid (at table (s .index)) ≡ v → Made (siteSet (lent c l A b) L s x g) r (laid (s .start) (s .words) A p) L′
+      go : (v : Bool) → arm .valid (at table (s .index)) ≡ v → Made (siteSet (lent c l A b) L s x (num g)) r (laid (s .start) (s .words) A p) L′
       go true v =
           let n = rw v at m in
-          rw v record { answer = e ∙ ap changedBy (n .answer); arena = ap (laid (s .start) (s .words) A) (n .table); log = n .log }
+          let d = n .done in
+          rw v record {
+            answer =
+                e ∙ ap changedOf (n .answer)
+                ∙ answer-is (fusing arm (s .unit) table (targetAt s x (num g))) (siteEvents (lent c l A b) s x (num g)) (n .tally)
+                (d .records ∙ zero-add _) (d .stores ∙ zero-add _);
+            arena = ap (laid (s .start) (s .words) A) (d .table);
+            log = d .log;
+          }
       go false v =
           let n = rw v at m in
+          let d = n .done in
           rw v record {
-            answer = e ∙ ap changedBy (n .answer);
-            arena = ap (laid (s .start) (s .words) A) (n .table) ∙ put-same (s .start) (s .words) A;
-            log = n .log;
+            answer = e ∙ ap changedOf (n .answer);
+            arena = ap (laid (s .start) (s .words) A) (d .table) ∙ put-same (s .start) (s .words) A;
+            log = d .log;
           }

@@ -2,15 +2,15 @@
 use mathlib.Core.Bool.{cond}
 use Prim.Native.Nat.{ℕ}
 use Rattle.gpi.specs.declared.Gpi.{Gpi}
-use Rattle.gpi.specs.declared.Nibble.{Nibble}
-use Rattle.gpi.specs.declared.Nibble.the-variants.{Known, Reserved}
 use Rattle.gpi.specs.Gpi.{num}
 use Rattle.theory.specs.Normal.{at}
+use Rattle.l1.specs.declared.Reading.{Reading}
+use Rattle.l1.specs.declared.Reading.the-variants.{Known, Invalid}
 use Rattle.l1.specs.L1.{readAt}
 use Rattle.config.specs.declared.Config.{Config}
 use Rattle.config.specs.Fields.{supportedOf}
 use Rattle.resolve.specs.declared.Place.{Place}
-use Rattle.resolve.specs.declared.Place.the-variants.{No, Block, Table}
+use Rattle.resolve.specs.declared.Place.the-variants.{Refused as Nowhere, Block, Table}
 use Rattle.resolve.specs.declared.Refusal.{Refusal}
 use Rattle.resolve.specs.declared.Refusal.the-variants.{InvalidL0Entry, InvalidL1Entry}
 use Rattle.resolve.specs.declared.Site.{Site}
@@ -33,17 +33,17 @@ abbrev pub granted : Config → Gpi → Refusal → Looked
 granted c g r = cond (supportedOf c g) (Ok g) (Refused r)
 
 -- 9: "entry at the address invalid; lookup: unsupported GPI". The word is valid throughout or not at all; support is asked of the one granule.
-abbrev pub judged : Config → Nibble → Looked
+abbrev pub judged : Config → Reading → Looked
 judged c (Known g) = granted c g InvalidL1Entry
-judged c Reserved = Refused InvalidL1Entry
+judged c Invalid = Refused InvalidL1Entry
 
 -- what is read at a site: the granule of the address's word in its table
-abbrev pub readIn : Lent → Site → Nibble
+abbrev pub readIn : Lent → Site → Reading
 readIn q s = readAt (at (tableIn q s) (s .index)) (s .granule)
 
 -- by the place of the address; 7: "lookup on a block of unsupported GPI"
 unfoldable pub lookedAt : Lent → Place → Looked
-lookedAt q (No r) = Refused r
+lookedAt q (Nowhere r) = Refused r
 lookedAt q (Block g) = granted (q .config) g InvalidL0Entry
 lookedAt q (Table s) = judged (q .config) (readIn q s)
 

@@ -4,28 +4,25 @@ use mathlib.Core.Bool.{cond}
 use mathlib.Core.List.{List}
 use Prim.Native.Nat.{ℕ}
 use lib.ListN.{length}
-use Rattle.gpi.specs.declared.Gpi.{Gpi}
 use Rattle.gpi.specs.declared.Nibble.{Nibble}
 use Rattle.gpi.specs.declared.Nibble.the-variants.{Known, Reserved}
 use Rattle.gpi.specs.Gpi.{num, gpiAt}
-use Rattle.pa.specs.Pa.{pa}
 use Rattle.theory.specs.Normal.{at}
 use Rattle.theory.specs.Stores.{apply}
-use Rattle.theory.specs.Events.{Event, stores, logged}
-use Rattle.theory.specs.Set.{fusing}
+use Rattle.theory.specs.Events.{Event, stores, count, logged}
+use Rattle.theory.specs.declared.Fused.{Fused}
+use Rattle.theory.specs.declared.Fused.the-variants.{Nowhere as Unfused, Level, Refused as Met}
+use Rattle.theory.specs.Set.{Target, fusing, setEvents}
 use Rattle.config.specs.Format.{formatOf}
 use Rattle.resolve.specs.declared.Call.the-variants.{Set}
 use Rattle.resolve.specs.declared.Site.{Site}
 use Rattle.resolve.specs.declared.Place.{Place}
-use Rattle.resolve.specs.declared.Place.the-variants.{No, Block, Table}
+use Rattle.resolve.specs.declared.Place.the-variants.{Refused as Nowhere, Block, Table}
 use Rattle.resolve.specs.declared.Refusal.{Refusal}
 use Rattle.resolve.specs.declared.Refusal.the-variants.{InvalidRequest, InvalidL1Entry}
 use Rattle.resolve.specs.Refusals.{refusalNumber}
 use Rattle.resolve.specs.Lent.{Lent, placeFor, tableIn, layIn}
-use Rattle.stores.specs.declared.Job.{Job}
-use Rattle.set_table.specs.declared.Answer.{Answer}
-use Rattle.set_table.specs.declared.Answer.the-variants.{Done as Finished, Stopped as Cut, Invalid}
-use Rattle.set_table.specs.Table.{answerOf, tallyOf, eventsOf}
+use Rattle.stores.specs.declared.Tally.{Tally}
 use Rattle.gpt.specs.declared.Changed.{Changed}
 use Rattle.gpt.specs.declared.Changed.the-variants.{Done, Stopped, Refused}
 
@@ -61,28 +58,31 @@ pub record Made (o : Outcome) (r : Changed) (A L : List ℕ) : Type 0 where
 abbrev pub refused : Refusal → Lent → List ℕ → Outcome
 refused r q L = record { answer = Refused r; left = q; log = L }
 
--- a table's answer as the call's; 9: "entry at the address invalid"
-abbrev pub changedBy : Answer → Changed
-changedBy (Finished t) = Done t
-changedBy (Cut t) = Stopped t
-changedBy Invalid = Refused InvalidL1Entry
-
--- the job at a site: x is the address as given
-abbrev pub jobOf : Site → ℕ → Gpi → Job
-jobOf s x g =
-    record { offset = s .start; index = s .index; granule = s .granule; unit = s .unit; gpi = g; address = pa x; grain = s .grain }
+-- what is set at a site: the granule of the address x, as it is given, to the GPI of number g
+abbrev pub targetAt : Site → ℕ → ℕ → Target
+targetAt s x g = record { word = s .index; granule = s .granule; gpi = g; address = x; bytes = s .grain }
 
 -- the events of a set at a site
-abbrev pub siteEvents : Lent → Site → ℕ → Gpi → List Event
-siteEvents q s x g = eventsOf (jobOf s x g) (tableIn q s)
+abbrev pub siteEvents : Lent → Site → ℕ → ℕ → List Event
+siteEvents q s x g = setEvents (formatOf (q .config)) (s .unit) (tableIn q s) (targetAt s x g)
 
--- "the shattered words and the new granule stored", then what is fused, made in the table; the log with their records over its front. Under
--- refusal 10 the events end before the fuse (`fused` of the crate `theory`).
-unfoldable pub siteSet : Lent → List ℕ → Site → ℕ → Gpi → Outcome
+-- "The store count is all fill counts plus one", the record count that of the events
+abbrev pub tallyOf : List Event → Tally
+tallyOf es = record { records = length es; stores = count es }
+
+-- the answer by what the fuse scans came to; 10: "the fuse scan met an invalid entry"
+abbrev pub changedBy : Fused → Tally → Changed
+changedBy Unfused t = Done t
+changedBy (Level l) t = Done t
+changedBy (Met k) t = Stopped t
+
+-- 9: "entry at the address invalid". Else "the shattered words and the new granule stored", then what is fused, made in the table; the log with
+-- their records over its front. Under refusal 10 the events end before the fuse (`fused` of the crate `theory`).
+unfoldable pub siteSet : Lent → List ℕ → Site → ℕ → ℕ → Outcome
 siteSet q L s x g =
     cond (formatOf (q .config) .valid (at (tableIn q s) (s .index)))
     (record {
-      answer = changedBy (answerOf (fusing (formatOf (q .config)) (s .unit) (tableIn q s) (s .index) (s .granule) (num g)) (tallyOf (siteEvents q s x g)));
+      answer = changedBy (fusing (formatOf (q .config)) (s .unit) (tableIn q s) (targetAt s x g)) (tallyOf (siteEvents q s x g));
       left = layIn q s (apply (tableIn q s) (stores (siteEvents q s x g)));
       log = logged (s .start) 0 (siteEvents q s x g) L;
     })
@@ -90,9 +90,9 @@ siteSet q L s x g =
 
 -- by the place of the address; 6: "set or mend on a valid L0 block". A set with an unknown GPI finds no place.
 unfoldable pub setAt : Lent → List ℕ → ℕ → Nibble → Place → Outcome
-setAt q L x n (No r) = refused r q L
+setAt q L x n (Nowhere r) = refused r q L
 setAt q L x n (Block g) = refused InvalidRequest q L
-setAt q L x (Known g) (Table s) = siteSet q L s x g
+setAt q L x (Known g) (Table s) = siteSet q L s x (num g)
 setAt q L x Reserved (Table s) = refused InvalidRequest q L
 
 -- the set of the address x to the GPI of number g, with the log L lent

@@ -8,10 +8,13 @@ ghost use Rattle.config.specs.declared.Config.{Config};
 ghost use Rattle.resolve.specs.Sited.{Sited};
 ghost use Rattle.resolve.specs.Lent.{lent};
 ghost use Rattle.gpt.specs.Lookup.{granted, judged, lookupOf};
-ghost use Rattle.gpt.specs.Set.{Made, changedBy, siteSet, setOf};
+ghost use Rattle.gpt.specs.Set.{Made, siteSet, setOf};
+ghost use Rattle.gpt.specs.Inner.{changedOf};
+ghost use Rattle.gpi.specs.Gpi.{num};
 use config::Config;
 use gpi::Gpi;
 use gpi::Nibble;
+use l1::Reading;
 use pa::PA;
 use resolve::Ask;
 use resolve::Call;
@@ -19,7 +22,7 @@ use resolve::Place;
 use resolve::Refusal;
 use resolve::Site;
 use set_table::Answer;
-use stores::Job;
+use set_table::SetAt;
 use stores::Tally;
 
 // What a lookup answers.
@@ -45,8 +48,8 @@ fn judge(c: Config, w: u64, k: u64) -> Looked
     ensures { λ r. ⌜ r ≡ judged c (readAt w k) ⌝ }
 {
     match l1::read(w, k) {
-        Nibble::Known(g) => grant(c, g, Refusal::InvalidL1Entry),
-        Nibble::Reserved => Looked::Refused(Refusal::InvalidL1Entry),
+        Reading::Known(g) => grant(c, g, Refusal::InvalidL1Entry),
+        Reading::Invalid => Looked::Refused(Refusal::InvalidL1Entry),
     }
 }
 
@@ -82,7 +85,7 @@ pub enum Changed {
 }
 
 fn changed_by(a: Answer) -> Changed
-    ensures { λ r. ⌜ r ≡ changedBy a ⌝ }
+    ensures { λ r. ⌜ r ≡ changedOf a ⌝ }
 {
     match a {
         Answer::Done(t) => Changed::Done(t),
@@ -95,18 +98,18 @@ fn changed_by(a: Answer) -> Changed
 fn set_site(arena: &mut [u64], log: &mut [u64], s: Site, address: PA, g: Gpi) -> Changed
     requires { ⌜ Sited (length (now arena)) s ⌝ }
     requires { ⌜ 52 ≤ length (now log) ⌝ }
-    ensures { λ r. ⌜ ((c : Config) (l : List ℕ) (b : ℕ) → Made (siteSet (lent c l (now (arena .entry)) b) (now (log .entry)) s (address .0) g) r (now (arena .exit)) (now (log .exit))) ⌝ }
+    ensures { λ r. ⌜ ((c : Config) (l : List ℕ) (b : ℕ) → Made (siteSet (lent c l (now (arena .entry)) b) (now (log .entry)) s (address .0) (num g)) r (now (arena .exit)) (now (log .exit))) ⌝ }
 {
     let o = s.start;
     let end = o + s.words;
-    let q = Job {
+    let q = SetAt {
         offset: o,
         index: s.index,
         granule: s.granule,
         unit: s.unit,
         gpi: g,
         address,
-        grain: s.grain,
+        bytes: s.grain,
     };
     let a = set_table::set_table(&mut arena[o..end], log, q);
     changed_by(a)

@@ -1,7 +1,7 @@
 -- A mend changes no lookup, whatever it is lent: every store of it keeps what its word reads.
 use mathlib.Core.Path.{_≡_, refl, sym, ap, _∙_}
 use mathlib.Core.List.{List, map}
-use Prim.Native.Nat.{ℕ, _+_, _<_}
+use Prim.Native.Nat.{ℕ, _+_}
 use borrow.Rule.Slice.PartMut.{put-same}
 use Rattle.theory.specs.Normal.{at}
 use Rattle.theory.specs.Mend.{mend}
@@ -9,7 +9,7 @@ use Rattle.theory.proofs.Lists.{map-at, map-length}
 use Rattle.theory.proofs.Mend.{flat-mend}
 use Rattle.theory.proofs.Arena.{table-word, map-laid}
 use Rattle.l1.specs.L1.{readAt, flat}
-use Rattle.l1.proofs.Alike.{flat-reads}
+use Rattle.l1.proofs.Alike.{same-reading}
 use Rattle.config.specs.Format.{formatOf}
 use Rattle.config.proofs.Format.{format-laws}
 use Rattle.resolve.specs.declared.Call.the-variants.{Plain}
@@ -24,11 +24,7 @@ use Rattle.mend.specs.declared.Named.the-variants.{At, Refused}
 use Rattle.mend.specs.Outcome.{namedBy, mendedAt, mendOf}
 use Rattle.mend.proofs.Sites.{sited}
 
--- words of one flat word read alike
-pub same-reading : (v w i : ℕ) → i < 16 → flat v ≡ flat w → readAt v i ≡ readAt w i
-same-reading v w i h e = sym (flat-reads v i h) ∙ ap (λ (x : ℕ). readAt x i) e ∙ flat-reads w i h
-
--- so arenas of one flat arena answer alike
+-- arenas of one flat arena answer alike
 pub same-flat : (q : Lent) (A : List ℕ) (y : ℕ) → map flat A ≡ map flat (q .arena) → lookupOf (over q A) y ≡ lookupOf q y
 same-flat q A y e = same-answer q y A (map-length flat A (q .arena) e) alike
   where

@@ -10,7 +10,7 @@ use Rattle.theory.proofs.Arena.{length-table}
 use Rattle.l1.specs.Arm.{arm}
 use Rattle.resolve.specs.declared.Call.the-variants.{Plain}
 use Rattle.resolve.specs.declared.Place.{Place}
-use Rattle.resolve.specs.declared.Place.the-variants.{No as Nowhere, Block, Table}
+use Rattle.resolve.specs.declared.Place.the-variants.{Refused as Nowhere, Block, Table}
 use Rattle.resolve.specs.declared.Refusal.{Refusal}
 use Rattle.resolve.specs.declared.Site.{Site}
 use Rattle.resolve.specs.Sited.{Sited}
@@ -28,7 +28,7 @@ use Rattle.mend.specs.Outcome.{Left, namedBy, mendedAt, mendOf, verdict,
 
 pub site-regions : (A : List ℕ) (s : Site) → Sited (length A) s → Regions (s .unit) (tableAt (s .start) (s .words) A)
 site-regions A s h =
-    record { some = h .unit-least; few = h .unit-most; regions = h .regions .0; whole = table-length (s .start) (s .words) A (h .fits) ∙ h .regions .1 }
+    record { some = h .unit-least; few = h .unit-most; regions = h .regions .0; whole = length-table (s .start) (s .words) A (h .fits) ∙ h .regions .1 }
 
 -- a table is named where the address lies in one
 pub named-in : (p : Place) (s : Site) → namedBy p ≡ At s → p ≡ Table s

@@ -7,7 +7,7 @@ use Prim.Native.Nat.{ℕ}
 use Rattle.theory.specs.Mend.{mend, mendCount}
 use Rattle.config.specs.Format.{formatOf}
 use Rattle.resolve.specs.declared.Place.{Place}
-use Rattle.resolve.specs.declared.Place.the-variants.{No as Nowhere, Block, Table}
+use Rattle.resolve.specs.declared.Place.the-variants.{Refused as Nowhere, Block, Table}
 use Rattle.resolve.specs.declared.Refusal.the-variants.{InvalidRequest}
 use Rattle.resolve.specs.Refusals.{refusalNumber}
 use Rattle.resolve.specs.Lent.{Lent, placed, tableIn, layIn}

@@ -1,7 +1,8 @@
 // The calls that the port adds to the Rust's: mend of the L1 table that an address names, and the check of its normal form.
 ghost use mathlib.Core.Path.{_≡_};
 ghost use Rattle.resolve.specs.Lent.{lent};
-ghost use Rattle.resolve.specs.Place.{placeOf, seeking};
+ghost use Rattle.resolve.specs.declared.Call.the-variants.{Plain};
+ghost use Rattle.resolve.specs.Place.{asks, placeOf};
 ghost use Rattle.mend.specs.Outcome.{Left, namedBy, mendOf, verdict, checkOf};
 use config::Config;
 use pa::PA;
@@ -32,7 +33,7 @@ pub enum Checked {
 
 // The table that an address names, in an arena of so many words.
 fn table_named(l0: &[u64], c: Config, words: usize, base: PA, address: PA) -> Named
-    ensures { λ r. ⌜ r ≡ namedBy (placeOf (seeking c words (base .0) (address .0)) (now (l0 .entry))) ⌝ }
+    ensures { λ r. ⌜ r ≡ namedBy (placeOf (asks c words (base .0) Plain (address .0)) (now (l0 .entry))) ⌝ }
 {
     let q = Ask {
         config: c,

@@ -5,7 +5,7 @@ use native.Mathlib.Omega.{arith}
 use Prim.Native.Nat.{_≤_, _<_, _^_}
 use borrow.Author.Needs.{needs}
 use lib.ListN.{length}
-use Rattle.resolve.specs.declared.Place.the-variants.{No, Block, Table}
+use Rattle.resolve.specs.declared.Place.the-variants.{Refused as Nowhere, Block, Table}
 use Rattle.resolve.specs.Sited.{Sited}
 use Rattle.resolve.specs.declared.Call.the-variants.{Plain}
 use Rattle.resolve.specs.Lent.{Lent, lent}
@@ -56,7 +56,7 @@ unfolding lookedAt
 returns c =
     let s = c .before .before .before .before .before .before .before in
     let a = s .args in
-    piece (from s) (a .w) (s .pre .0) (a .a) (s .pre .1) (No (c .before .before .r .given .0 .0))
+    piece (from s) (a .w) (s .pre .0) (a .a) (s .pre .1) (Nowhere (c .before .before .r .given .0 .0))
     (sym (c .before .before .before .before .find .ensures) ∙ c .before .before .r .given .1) refl (c .last-of .ensures)
 
 returns-2 : tie.Need-returns-2

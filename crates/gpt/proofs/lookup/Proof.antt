@@ -31,7 +31,7 @@ part-read-table-end : tie.Need-part-read-table-end
 part-read-table-end c = at-site (c .before .before) .fits
 
 read-table-requires : tie.Need-read-table-requires
-read-table-requires c κs = let s = at-site (c .before .before .before) in rw (add-sub-cancel-left _ _, table-length _ _ _ (s .fits)) (s .index, s .granule)
+read-table-requires c κs = let s = at-site (c .before .before .before) in rw (add-sub-cancel-left _ _, length-table _ _ _ (s .fits)) (s .index, s .granule)
 
 returns : tie.Need-returns
 unfolding lookupOf lookedAt
