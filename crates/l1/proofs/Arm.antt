@@ -13,9 +13,9 @@ use Rattle.gpi.specs.declared.Size.{Size}
 use Rattle.gpi.specs.declared.Size.the-variants.{MB2, MB32, MB512}
 use Rattle.gpi.specs.Gpi.{num, knownAt}
 use Rattle.gpi.specs.Size.{sizeNum, bytesOf}
-use Rattle.gpi.proofs.Rules.{num-lt, known-lt, named, size-lt, size-pos}
+use Rattle.gpi.proofs.Rules.{num-lt, known-lt, named, size-pos}
 use Rattle.gpi.proofs.Table.{apart, and-both}
-use Rattle.theory.specs.Format.{Laws, reads, reading}
+use Rattle.theory.specs.Format.{Laws, reads, reading, gpi}
 use Rattle.theory.specs.Normal.{span}
 use Rattle.theory.specs.Set.{bytes}
 use Rattle.granules.specs.Nibs.{nib, nibs, word, all}
@@ -37,6 +37,12 @@ use Rattle.l1.proofs.Alike.{coarse, l1-flat, flat-idem, entryReads, num
 
 pub gpi-of-known : (g : ℕ) → knownAt g ≡ true → (x : Gpi) × (g ≡ num x)
 gpi-of-known g k = named _ g k (λ x e. (x, e))
+
+pub level-num : (s : Size) → sizeNum s ≡ suc (levelOf s)
+level-num s = elim s [ MB2 ↦ refl | MB32 ↦ refl | MB512 ↦ refl ]
+
+pub level-lt : (s : Size) → levelOf s < 3
+level-lt s = elim s [ MB2 ↦ lit< tt | MB32 ↦ lit< tt | MB512 ↦ lit< tt ]
 
 size-of-level : (l : ℕ) → l < 3 → (s : Size) × (sizeNum s ≡ suc l)
 size-of-level zero h = (MB2, refl)
@@ -98,34 +104,25 @@ module _ (l g : ℕ) (h : l < 3) (k : knownAt g ≡ true) where
   size-made : sizeOf (l1Of (contigAt l g)) ≡ suc l
   size-made = ap sizeOf contig-entry ∙ size-of-level l h .1
 
--- what a size code tells: the word is contiguous
+-- an entry that has a size code is contiguous, of that size and of the GPI that the theory takes it for
 module _ (w l : ℕ) where
-  size-small : sizeOf (l1Of w) ≡ suc l → l < 3
-  size-small e = go (l1Of w) e
+  pub contiguous : sizeOf (l1Of w) ≡ suc l → (g : Gpi) × (s : Size) × (l1Of w ≡ Contiguous g s) × (levelOf s ≡ l) × (gpi arm w ≡ num g)
+  contiguous e = go (l1Of w) refl e
     where
-      go : (x : L1Entry) → sizeOf x ≡ suc l → l < 3
-      go (Contiguous g s) e = omega (arith, size-lt s)
-      go Granules e = absurd (omega arith)
-      go Invalid e = absurd (omega arith)
+      go : (x : L1Entry) → l1Of w ≡ x → sizeOf x ≡ suc l
+          → (g : Gpi) × (s : Size) × (l1Of w ≡ Contiguous g s) × (levelOf s ≡ l) × (gpi arm w ≡ num g)
+      go (Contiguous g s) p q = (g, s, p, omega (arith, level-num s), rw p (let h = num-lt g in omega arith))
+      go Granules p q = absurd (omega arith)
+      go Invalid p q = absurd (omega arith)
+
+  size-small : sizeOf (l1Of w) ≡ suc l → l < 3
+  size-small e = let c = contiguous e in rw (← c .3) (level-lt (c .1))
 
   size-valid : sizeOf (l1Of w) ≡ suc l → validOf (l1Of w) ≡ true
-  size-valid e = go (l1Of w) e
-    where
-      go : (x : L1Entry) → sizeOf x ≡ suc l → validOf x ≡ true
-      go (Contiguous g s) e = refl
-      go Granules e = absurd (omega arith)
-      go Invalid e = absurd (omega arith)
+  size-valid e = ap validOf (contiguous e .2)
 
   size-rep : sizeOf (l1Of w) ≡ suc l → flat w ≡ repeated (flat w % 16)
-  size-rep e = go (l1Of w) e
-    where
-      low : (g : Gpi) → repeated (num g) ≡ repeated (repeated (num g) % 16)
-      low g = ap repeated (let h = num-lt g in omega arith)
-
-      go : (x : L1Entry) → sizeOf x ≡ suc l → flatOf x w ≡ repeated (flatOf x w % 16)
-      go (Contiguous g s) e = low g
-      go Granules e = absurd (omega arith)
-      go Invalid e = absurd (omega arith)
+  size-rep e = let c = contiguous e in ap (λ (x : L1Entry). flatOf x w) (c .2) ∙ sym (ap repeated (c .4))
 
 size-flat : (w : ℕ) → sizeOf (l1Of w) ≡ 0 → flat w ≡ w
 size-flat w e = go (l1Of w) e
@@ -175,12 +172,6 @@ arm-laws =
     }
 
 -- ---- the code's words and tests as the theory's
-
-pub level-num : (s : Size) → sizeNum s ≡ suc (levelOf s)
-level-num s = elim s [ MB2 ↦ refl | MB32 ↦ refl | MB512 ↦ refl ]
-
-pub level-lt : (s : Size) → levelOf s < 3
-level-lt s = elim s [ MB2 ↦ lit< tt | MB32 ↦ lit< tt | MB512 ↦ lit< tt ]
 
 -- the bytes of a size are those of its level
 pub level-bytes : (s : Size) → bytes (levelOf s) ≡ bytesOf s
