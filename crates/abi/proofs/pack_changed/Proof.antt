@@ -22,7 +22,7 @@ returns-2 c = rw (c .before .before .a2 .given .1) (c .pack-tally2 .ensures)
 
 returns-3 : tie.Need-returns-3
 unfolding changedPacked
-returns-3 c = rw (c .before .before .a3 .given .1) (omega (arith, c .number .ensures))
+returns-3 c = rw (c .before .before .a3 .given .1) (omega (arith, c .refusal-number .ensures))
 
 pub pack-changed-spec : {M : Type 1} → statement M
 pack-changed-spec =

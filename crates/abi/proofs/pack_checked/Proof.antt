@@ -19,7 +19,7 @@ returns-2 c = rw (c .enum-told2 .given .1) (omega arith)
 
 returns-3 : tie.Need-returns-3
 unfolding checkedPacked
-returns-3 c = rw (c .before .before .k .given .1) (omega (arith, c .number .ensures))
+returns-3 c = rw (c .before .before .k .given .1) (omega (arith, c .refusal-number .ensures))
 
 pub pack-checked-spec : {M : Type 1} → statement M
 pack-checked-spec =

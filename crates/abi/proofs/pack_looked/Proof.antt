@@ -16,7 +16,7 @@ returns c = rw (c .before .before .s .given .1) (omega (arith, c .number .ensure
 
 returns-2 : tie.Need-returns-2
 unfolding lookedPacked
-returns-2 c = rw (c .before .before .s2 .given .1) (omega (arith, c .number2 .ensures))
+returns-2 c = rw (c .before .before .s2 .given .1) (omega (arith, c .refusal-number .ensures))
 
 pub pack-looked-spec : {M : Type 1} → statement M
 pack-looked-spec =

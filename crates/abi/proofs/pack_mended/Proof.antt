@@ -15,7 +15,7 @@ returns c = rw (c .before .m .given .1) (omega arith)
 
 returns-2 : tie.Need-returns-2
 unfolding mendedPacked
-returns-2 c = rw (c .before .before .m2 .given .1) (omega (arith, c .number .ensures))
+returns-2 c = rw (c .before .before .m2 .given .1) (omega (arith, c .refusal-number .ensures))
 
 pub pack-mended-spec : {M : Type 1} → statement M
 pack-mended-spec =

@@ -10,8 +10,8 @@ use Rattle.dump_text.proofs.number.Tie as tie
 
 returns-2 : tie.Need-returns-2
 returns-2 c = (
-  c .number .ensures ∙ sym (ap lookedNumber (c .before .before .a .given .1)),
-  omega (arith, c .number .ensures, refusal-number (c .before .before .a .given .0 .0) .1),
+  c .refusal-number .ensures ∙ sym (ap lookedNumber (c .before .before .a .given .1)),
+  omega (arith, c .refusal-number .ensures, refusal-number (c .before .before .a .given .0 .0) .1),
 )
 
 pub number-spec : {M : Type 1} → statement M
