@@ -1,4 +1,4 @@
--- What the check's yes means: the table is its own normal table, and no mend of it writes anything.
+-- Crate mend_table. What the check's yes means: the table is its own normal table, and no mend of it writes anything.
 -- Assumes nothing.
 use mathlib.Core.Path.{_≡_, refl, sym, ap, _∙_}
 use mathlib.Core.Bool.{Bool, true, false, _&&_, cond}
@@ -17,7 +17,7 @@ use Rattle.theory.specs.Mend.{differing, mend, mendCount}
 use Rattle.theory.proofs.Lists.{every-at, every-of}
 use Rattle.theory.proofs.Normal.{length-normal, at-normal, same-normal}
 use Rattle.theory.proofs.Mend.{Upward, mend-upward, mendCount-is, length-mend, differing-few}
-use Rattle.mend_table.specs.Normal.{isNormal, fits}
+use Rattle.mend_table.specs.Normal.{isNormal}
 
 -- no word differs exactly if every word is the other's
 none-differing : (r h : ℕ → ℕ) (a n : ℕ) → eqb (differing r h a n) 0 ≡ every (λ i. eqb (r i) (h i)) a n
@@ -35,17 +35,16 @@ module _ (F : Format) (u : ℕ) (t : List ℕ) where
   unlimited = mendCount-is F u (length t) t ∙ omega (arith, differing-few (at t) (normalWord F u (at t)) 0 (length t))
 
   -- the check asks each word whether it is normal
-  pub normal-fits : isNormal F u t ≡ fits F u (at t) 3 0 (length t)
-  unfolding isNormal fits
-  normal-fits = ap (λ (n : ℕ). eqb n 0) unlimited ∙ none-differing (at t) (normalWord F u (at t)) 0 (length t)
+  pub normal-every : isNormal F u t ≡ every (λ i. eqb (at t i) (normalWord F u (at t) i)) 0 (length t)
+  unfolding isNormal
+  normal-every = ap (λ (n : ℕ). eqb n 0) unlimited ∙ none-differing (at t) (normalWord F u (at t)) 0 (length t)
 
   -- ---- THE THEOREMS
 
   every-normal : isNormal F u t ≡ true → (i : ℕ) → i < length t → at t i ≡ normalWord F u (at t) i
-  unfolding fits
   every-normal y i b =
       eqb-true (at t i) (normalWord F u (at t) i)
-      (every-at (λ j. eqb (at t j) (normalWord F u (at t) j)) 0 (length t) (sym normal-fits ∙ y) i (omega arith) (omega arith))
+      (every-at (λ j. eqb (at t j) (normalWord F u (at t) j)) 0 (length t) (sym normal-every ∙ y) i (omega arith) (omega arith))
 
   -- A table on which the check says yes is written by no mend, whatever its limit.
   pub yes-kept : isNormal F u t ≡ true → (k : ℕ) → (mend F u k t ≡ t) × (mendCount F u k t ≡ 0)
@@ -78,9 +77,8 @@ module _ (F : Format) (L : Laws F) (u : ℕ) (t : List ℕ) where
   yes-normal y = ext-getD 0 t (normal F u t) (sym (length-normal F L u t)) (λ i b. every-normal F u t y i b ∙ sym (at-normal F L u t i b))
 
   pub normal-yes : t ≡ normal F u t → isNormal F u t ≡ true
-  unfolding fits
   normal-yes e =
-      normal-fits F u t
+      normal-every F u t
       ∙ every-of (λ j. eqb (at t j) (normalWord F u (at t) j)) 0 (length t)
       (λ i lo hi. eq-eqb (at t i) (normalWord F u (at t) i) (ap (λ (l : List ℕ). at l i) e ∙ at-normal F L u t i (omega arith)))
 
