@@ -1,5 +1,5 @@
--- Crate mend_table. The judgement of a range: that it holds by the range's one GPI, and how what is true of the words so judged is true of the
--- range's normal words. The walk of mend and the comparison of the check both are such a truth.
+-- Crate mend_table. The judgement of a range: that it holds by the range's one GPI, and that what is true of the words so judged is true of
+-- the range's normal words. The walk of mend and the comparison of the check both are such a truth.
 -- Assumes nothing.
 use mathlib.Core.Path.{_≡_, refl, sym, ap, _∙_}
 use mathlib.Core.List.{List}
@@ -20,17 +20,19 @@ use Rattle.mend_table.specs.declared.One.the-variants.{Gpi, Mixed}
 use Rattle.mend_table.specs.declared.Judged.{Judged}
 use Rattle.mend_table.specs.declared.Judged.the-variants.{Words, Parts}
 use Rattle.mend_table.specs.Inner.{wantedAt, Lies, OneIs, Judges}
-use Rattle.mend_table.proofs.Stretches.{sixteen, parts-from, parts-lie}
+use Rattle.mend_table.proofs.Stretches.{sixteen, parts-from}
 
 -- ---- the judgement
 
-module _ (F : Format) (L : Laws F) {u l p : ℕ} {t : List ℕ} (h : Lies u l p 1 t) {n : ℕ} (e : n ≡ span u l) {x : One} (o : OneIs F (at t) (p * n) n x) where
+module _ (F : Format) (L : Laws F) {u l p : ℕ} {t : List ℕ} (h : Lies u l p 1 t) {n : ℕ} (e : n ≡ span u l) {x : One}
+    (o : OneIs F (at t) (p * n) n x) where
   pub of-one : {g : AGpi} {w : ℕ} → x ≡ Gpi g → w ≡ F .contig l (num g) → Judges F u l p (at t) (Words (Word w))
   of-one {g} {w} q v =
       let o′ : OneIs F (at t) (p * span u l) (span u l) (Gpi g) = rw (q, e) at o in
       record {
         below = tt;
-        words = λ i lo hi. words-single F L u (h .table .some) (at t) l (p * span u l) p refl (o′ .0) i lo hi ∙ sym (v ∙ ap (F .contig l) (o′ .1));
+        words = λ i lo hi.
+            words-single F L u (h .table .some) (at t) l (p * span u l) p refl (o′ .0) i lo hi ∙ sym (v ∙ ap (F .contig l) (o′ .1));
       }
 
   module _ (q : x ≡ Mixed) where
@@ -41,19 +43,18 @@ module _ (F : Format) (L : Laws F) {u l p : ℕ} {t : List ℕ} (h : Lies u l p 
 
     pub of-words : l ≡ 0 → Judges F u l p (at t) (Words Flat)
     of-words z =
-        record { below = tt; words = λ i lo hi. lower i lo hi ∙ ap (λ (m : ℕ). capped F u (at t) m i) z ∙ capped-flat F L u (h .table .some) (at t) i }
+        record {
+          below = tt;
+          words = λ i lo hi. lower i lo hi ∙ ap (λ (m : ℕ). capped F u (at t) m i) z ∙ capped-flat F L u (h .table .some) (at t) i;
+        }
 
     pub of-parts : {s : Size} → l ≡ suc (levelOf s) → Judges F u l p (at t) (Parts s)
     of-parts z = record { below = z; words = λ i lo hi. lower i lo hi ∙ ap (λ (m : ℕ). capped F u (at t) m i) z }
 
 -- ---- its use
 
-module _ {F : Format} {u l p : ℕ} {r : ℕ → ℕ} {x : Judged} {s : Size} where
-  pub down : Judges F u l p r x → x ≡ Parts s → l ≡ suc (levelOf s)
-  down j q = let j′ : Judges F u l p r (Parts s) = rw q at j in j′ .below
-
-  pub parts-judged : {t : List ℕ} → Lies u l p 1 t → Judges F u l p r x → x ≡ Parts s → Lies u (levelOf s) (p * 16) 16 t
-  parts-judged h j q = parts-lie h (down j q)
+pub down : {F : Format} {u l p : ℕ} {r : ℕ → ℕ} {x : Judged} {s : Size} → Judges F u l p r x → x ≡ Parts s → l ≡ suc (levelOf s)
+down {F} {u} {l} {p} {r} {s = s} j q = let j′ : Judges F u l p r (Parts s) = rw q at j in j′ .below
 
 module _ (F : Format) {u l p : ℕ} {r : ℕ → ℕ} (Q : (ℕ → ℕ) → ℕ → ℕ → Type 0)
     (ext : (g h : ℕ → ℕ) (a n : ℕ) → ((i : ℕ) → a ≤ i → i < a + n → g i ≡ h i) → Q h a n → Q g a n)

@@ -44,8 +44,8 @@ every-add p a (suc m) n = rw (suc-add m n, every-add p (suc a) m n, suc-add a m,
     go false = refl
 
 -- words compared with others that are the same within the stretch
-pub every-same : (r : ℕ → ℕ) (b : Bool) (g h : ℕ → ℕ) (a n : ℕ) → ((j : ℕ) → a ≤ j → j < a + n → g j ≡ h j) → b ≡ every (λ j. eqb (r j) (h j)) a n
-    → b ≡ every (λ j. eqb (r j) (g j)) a n
+pub every-same : (r : ℕ → ℕ) (b : Bool) (g h : ℕ → ℕ) (a n : ℕ) → ((j : ℕ) → a ≤ j → j < a + n → g j ≡ h j)
+    → b ≡ every (λ j. eqb (r j) (h j)) a n → b ≡ every (λ j. eqb (r j) (g j)) a n
 unfolding every
 every-same r b g h a n e w = w ∙ sym (go a n e)
   where

@@ -35,16 +35,16 @@ module _ (F : Format) (u : ℕ) (t : List ℕ) where
   unlimited = mendCount-is F u (length t) t ∙ omega (arith, differing-few (at t) (normalWord F u (at t)) 0 (length t))
 
   -- the check asks each word whether it is normal
-  pub normal-every : isNormal F u t ≡ every (λ i. eqb (at t i) (normalWord F u (at t) i)) 0 (length t)
+  pub normal-fits : isNormal F u t ≡ every (λ i. eqb (at t i) (normalWord F u (at t) i)) 0 (length t)
   unfolding isNormal
-  normal-every = ap (λ (n : ℕ). eqb n 0) unlimited ∙ none-differing (at t) (normalWord F u (at t)) 0 (length t)
+  normal-fits = ap (λ (n : ℕ). eqb n 0) unlimited ∙ none-differing (at t) (normalWord F u (at t)) 0 (length t)
 
   -- ---- THE THEOREMS
 
   every-normal : isNormal F u t ≡ true → (i : ℕ) → i < length t → at t i ≡ normalWord F u (at t) i
   every-normal y i b =
       eqb-true (at t i) (normalWord F u (at t) i)
-      (every-at (λ j. eqb (at t j) (normalWord F u (at t) j)) 0 (length t) (sym normal-every ∙ y) i (omega arith) (omega arith))
+      (every-at (λ j. eqb (at t j) (normalWord F u (at t) j)) 0 (length t) (sym normal-fits ∙ y) i (omega arith) (omega arith))
 
   -- A table on which the check says yes is written by no mend, whatever its limit.
   pub yes-kept : isNormal F u t ≡ true → (k : ℕ) → (mend F u k t ≡ t) × (mendCount F u k t ≡ 0)
@@ -68,7 +68,10 @@ module _ (F : Format) (u : ℕ) (t : List ℕ) where
   no-stores n k pos = go (ℕ-discrete (mendCount F u (length t) t) 0)
     where
       go : Dec (mendCount F u (length t) t ≡ 0) → 0 < mendCount F u k t
-      go (yes z) = let q : true ≡ false = sym (eq-eqb (mendCount F u (length t) t) 0 z) ∙ n in let z : _≡_ {A = ℕ} 0 1 = cc in absurd (omega arith)
+      go (yes z) =
+          let q : true ≡ false = sym (eq-eqb (mendCount F u (length t) t) 0 z) ∙ n in
+          let z : _≡_ {A = ℕ} 0 1 = cc in
+          absurd (omega arith)
       go (no z) = omega (arith, mendCount-is F u k t, unlimited)
 
 -- It says yes exactly if the table is its own normal table.
@@ -78,7 +81,7 @@ module _ (F : Format) (L : Laws F) (u : ℕ) (t : List ℕ) where
 
   pub normal-yes : t ≡ normal F u t → isNormal F u t ≡ true
   normal-yes e =
-      normal-every F u t
+      normal-fits F u t
       ∙ every-of (λ j. eqb (at t j) (normalWord F u (at t) j)) 0 (length t)
       (λ i lo hi. eq-eqb (at t i) (normalWord F u (at t) i) (ap (λ (l : List ℕ). at l i) e ∙ at-normal F L u t i (omega arith)))
 

@@ -1,7 +1,8 @@
 // mend_table: the mend and the check of one L1 table. Added by the port: the Rust has neither.
-// Both go down the sizes. A range is judged: one of one GPI is to be that contiguous word, any other is judged by its sixteen parts, and a 2 MB
-// part word by word. Mend makes the words so, the check asks whether they are. So a word is read a few times, whatever the table holds: for each
-// size, and where it is written; never a whole range again for each word.
+// Both go down the sizes. A range is judged: one of one GPI is to be that contiguous word, any other is judged by its sixteen parts, and a
+// 2 MB part by its words. Mend makes the words so, the check asks whether they are. So a word is read a few times, whatever the table
+// holds: for each size, and where it is written; never a whole range again for each word. The ranges of a size are numbered from the
+// table's start: range p, of n words, begins at word p * n.
 ghost use mathlib.Core.Path.{_≡_};
 ghost use Prim.Native.Nat.{_+_, _≤_, _<_, _*_};
 ghost use lib.ListN.{length};
@@ -61,6 +62,7 @@ fn alike(v: u64, w: u64, f: u64) -> bool
     l1::flat(v) == f
 }
 
+// Whether v passes.
 fn passes(test: Test, v: u64) -> bool
     ensures { λ r. ⌜ r ≡ passed arm test v ⌝ }
 {
@@ -87,8 +89,8 @@ fn all_pass(t: &[u64], p: usize, n: usize, test: Test) -> bool
     true
 }
 
-// The one GPI of range p, of n words. No word's sixteen nibbles are looked at: the lowest word's granules are one GPI sixteen times, and every other
-// word's granules are the same.
+// The one GPI of range p, of n words. No word's sixteen nibbles are looked at: the lowest word's granules are one GPI sixteen times, and
+// every other word's granules are the same.
 fn one_gpi(t: &[u64], p: usize, n: usize) -> One
     requires { ⌜ (0 < n) × (p * n + n ≤ length (now t)) ⌝ }
     ensures { λ r. ⌜ OneIs arm (at (now (t .entry))) (p * n) n r ⌝ }

@@ -1,4 +1,5 @@
--- Crate mend_table: the cycle of calls {mend_parts, mend_region} meets its contracts. The measure is twice the size's level, and one more for the parts.
+-- Crate mend_table: the cycle of calls {mend_parts, mend_region} meets its contracts. The measure is twice the size's level, and one more
+-- for the parts.
 -- Assumes nothing.
 use mathlib.Core.Path.{_≡_, refl, _∙_}
 use Prim.Native.Nat.{ℕ, _+_, _-_, _*_, _<_, _≤_}
@@ -7,8 +8,8 @@ use lib.ListN.{length}
 use Rattle.l1.specs.Arm.{arm, levelOf}
 use Rattle.l1.proofs.Arm.{arm-laws, level-lt}
 use Rattle.mend_table.specs.Inner.{Mends}
-use Rattle.mend_table.proofs.Stretches.{words-there, in-table, some-lie}
-use Rattle.mend_table.proofs.Judging.{down, parts-judged}
+use Rattle.mend_table.proofs.Stretches.{words-there, parts-lie, in-table, some-lie}
+use Rattle.mend_table.proofs.Judging.{down}
 use Rattle.mend_table.proofs.Walks.{none-yet, one-more, all-made, full, words-mended, parts-mended}
 use borrow.Author.Needs.{needs}
 use borrow.Fn.Kinds.{In}
@@ -83,12 +84,12 @@ module _ (t : ℕ) where
       )
 
   parts-returns : parts-lts.Need-returns (KP t) (parts-at t) parts.Post Inv μ-loop
-  parts-returns c = let i = c .before .loop in all-made arm arm-laws (i .inv .0) (c .loop-test .left) (i .inv .1)
+  parts-returns c = let i = c .before .loop in all-made arm (i .inv .0) (c .loop-test .left) (i .inv .1)
 
   -- ---- mend_region
 
   region-returns : region-lts.Need-returns (KR t) (region-at t) region.Post
-  region-returns c = full arm arm-laws (c .if1 .taken)
+  region-returns c = full arm (c .if1 .taken)
 
   region-put-range-requires : region-lts.Need-put-range-requires (KR t) (region-at t) region.Post
   region-put-range-requires c κs =
@@ -100,34 +101,35 @@ module _ (t : ℕ) where
       let m = c .before .before in
       let j = m .before .before in
       let s = j .before .before .before .before .before in
-      omega (arith, in-table (parts-judged (s .pre .1) (j .judge .ensures) (m .smaller .given .1)))
+      omega (arith, in-table (parts-lie (s .pre .1) (down (j .judge .ensures) (m .smaller .given .1))))
 
   region-parts-requires : region-lts.Need-mend-parts-requires (KR t) (region-at t) region.Post
   region-parts-requires c κs =
       let m = c .before .before in
       let j = m .before .before in
       let s = j .before .before .before .before .before in
-      (omega (arith, s .pre .0, down (j .judge .ensures) (m .smaller .given .1)), parts-judged (s .pre .1) (j .judge .ensures) (m .smaller .given .1))
+      let d = down (j .judge .ensures) (m .smaller .given .1) in
+      (omega (arith, s .pre .0, d), parts-lie (s .pre .1) d)
 
   region-returns-2 : region-lts.Need-returns-2 (KR t) (region-at t) region.Post
   region-returns-2 c =
       let p = c .before .before in
       let w = p .before .before .before in
       let j = w .before .before in
-      words-mended arm arm-laws (j .judge .ensures) (w .want .given .1) (j .before .before .span .ensures) (p .put-range .ensures)
+      words-mended arm (j .judge .ensures) (w .want .given .1) (j .before .before .span .ensures) (p .put-range .ensures)
 
   region-returns-3 : region-lts.Need-returns-3 (KR t) (region-at t) region.Post
   region-returns-3 c =
       let p = c .before .before in
       let m = p .before .before .before in
       let j = m .before .before in
-      parts-mended arm arm-laws (j .judge .ensures) (m .smaller .given .1) (p .mend-parts .ensures)
+      parts-mended arm (j .judge .ensures) (m .smaller .given .1) (p .mend-parts .ensures)
 
 pub +mend-parts+mend-region-spec : {M : Type 1} → statement M
 +mend-parts+mend-region-spec =
     close μ-parts μ-region
     (λ t. parts-lts.spec (KP t) (parts-at t) parts.Post Inv μ-loop
-    (λ c. (omega arith, none-yet arm arm-laws, refl))
+    (λ c. (omega arith, none-yet arm, refl))
     (parts-add-region t)
     (parts-region-requires t)
     (λ c. omega arith)

@@ -1,11 +1,11 @@
 -- Crate mend_table: the cycle of calls {parts, region} meets its contracts. The measure: the size's level, then the parts left.
 -- Assumes nothing.
-use mathlib.Core.Path.{refl, sym}
+use mathlib.Core.Path.{refl}
 use Prim.Native.Nat.{ℕ, _+_, _*_, _<_}
 use native.Mathlib.Omega.{arith}
 use Rattle.l1.specs.Arm.{arm, levelOf}
-use Rattle.mend_table.proofs.Stretches.{words-there, in-table, some-lie}
-use Rattle.mend_table.proofs.Judging.{down, parts-judged}
+use Rattle.mend_table.proofs.Stretches.{words-there, parts-lie, in-table, some-lie}
+use Rattle.mend_table.proofs.Judging.{down}
 use Rattle.mend_table.proofs.Checks.{none-left, first-right, first-wrong, words-checked, parts-checked}
 use borrow.Author.Needs.{needs}
 use borrow.Fn.Kinds.{In}
@@ -87,14 +87,15 @@ module _ (t : ℕ) where
   region-mul-parts c =
       let m = c .before in
       let j = m .before .before in
-      omega (arith, in-table (parts-judged (j .before .before .before .pre .1) (j .judge .ensures) (m .smaller .given .1)))
+      omega (arith, in-table (parts-lie (j .before .before .before .pre .1) (down (j .judge .ensures) (m .smaller .given .1))))
 
   region-parts-requires : region-lts.Need-parts-requires (KR t) (region-at t) region.Post
   region-parts-requires c κs =
       let m = c .before in
       let j = m .before .before in
       let s = j .before .before .before in
-      (omega (arith, s .pre .0, down (j .judge .ensures) (m .smaller .given .1)), parts-judged (s .pre .1) (j .judge .ensures) (m .smaller .given .1))
+      let d = down (j .judge .ensures) (m .smaller .given .1) in
+      (omega (arith, s .pre .0, d), parts-lie (s .pre .1) d)
 
   region-returns : region-lts.Need-returns (KR t) (region-at t) region.Post
   region-returns c =

@@ -1,6 +1,6 @@
 -- Crate mend_table: `one_gpi` meets its contract.
 -- Assumes nothing.
-use mathlib.Core.Path.{_≡_, sym, ap, _∙_}
+use mathlib.Core.Path.{sym, ap, _∙_}
 use Prim.Native.Nat.{ℕ, _*_, _%_}
 use Rattle.gpi.specs.Gpi.{isKnown}
 use Rattle.gpi.proofs.Rules.{num-at}
@@ -22,7 +22,7 @@ returns c =
     let s = f .before .before .before in
     let q = sym (o .gpi-of .ensures) ∙ k .g .given .1 in (
       scanned arm arm-laws (at (s .args .t .now)) (s .args .p * s .args .n) (s .args .n) _ (f .flat .ensures) (ap isKnown q) (e .if1 .taken)
-      (sym (c .if2 .taken) ∙ p .all-pass .ensures),
+          (sym (c .if2 .taken) ∙ p .all-pass .ensures),
       sym (num-at _ _ q) ∙ ap (λ (x : ℕ). x % 16) (f .flat .ensures),
     )
 

@@ -32,8 +32,8 @@ loop-again c =
     let l = i .loop in
     let a = i .before .before .args in (
       omega arith,
-      goes-on _ _ _ _ _ _ _ _ (l .inv .1) _ (w .wanted .ensures ∙ ap (wantedAt arm (a .want)) (goes-ahead _ _ _ _ _ _ _ _ (l .inv .1) _ (omega arith))) _ _
-      (p .put .ensures),
+      goes-on _ _ _ _ _ _ _ _ (l .inv .1) _
+          (w .wanted .ensures ∙ ap (wantedAt arm (a .want)) (goes-ahead _ _ _ _ _ _ _ _ (l .inv .1) _ (omega arith))) _ _ (p .put .ensures),
       p .put .kept .0 ∙ l .inv .2,
     )
 
