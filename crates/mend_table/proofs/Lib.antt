@@ -1,6 +1,7 @@
-pub mod Yes
-pub mod Judged
 pub mod Lists
 pub mod Single
 pub mod Stretches
+pub mod Judging
 pub mod Walks
+pub mod Checks
+pub mod Yes

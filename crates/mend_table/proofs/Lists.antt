@@ -1,4 +1,4 @@
--- `every` over stretches: a scan's loop, one stretch after another, and one test for another within the stretch.
+-- Crate mend_table. `every` over stretches: a scan's loop, one stretch after another, and one test for another within the stretch.
 -- Assumes nothing.
 use mathlib.Core.Path.{_≡_, refl, sym, _∙_}
 use mathlib.Core.Bool.{Bool, true, false, _&&_}
@@ -6,6 +6,7 @@ use Prim.Native.Nat.{ℕ, zero, suc, _+_, _-_, _<_, _≤_}
 use native.Mathlib.Nat.{add-suc, suc-add, add-zero, zero-add, sub-zero}
 use native.Mathlib.Numerals.{add-one}
 use native.Mathlib.Omega.{arith}
+use lib.Dec.{eqb}
 use Rattle.theory.specs.Normal.{every}
 
 -- ---- a scan: the rest of the stretch says the same as the whole
@@ -42,8 +43,12 @@ every-add p a (suc m) n = rw (suc-add m n, every-add p (suc a) m n, suc-add a m,
     go true = refl
     go false = refl
 
-pub every-within : (p q : ℕ → Bool) (a n : ℕ) → ((j : ℕ) → a ≤ j → j < a + n → p j ≡ q j) → every p a n ≡ every q a n
+-- words compared with others that are the same within the stretch
+pub every-same : (r : ℕ → ℕ) (b : Bool) (g h : ℕ → ℕ) (a n : ℕ) → ((j : ℕ) → a ≤ j → j < a + n → g j ≡ h j)
+    → b ≡ every (λ j. eqb (r j) (h j)) a n → b ≡ every (λ j. eqb (r j) (g j)) a n
 unfolding every
-every-within p q a zero h = refl
-every-within p q a (suc n) h =
-    rw (h a (omega arith) (omega arith), every-within p q (suc a) n (λ j lo hi. h j (omega arith) (omega arith))) refl
+every-same r b g h a n e w = w ∙ sym (go a n e)
+  where
+    go : (a n : ℕ) → ((j : ℕ) → a ≤ j → j < a + n → g j ≡ h j) → every (λ j. eqb (r j) (g j)) a n ≡ every (λ j. eqb (r j) (h j)) a n
+    go a zero e = refl
+    go a (suc n) e = rw (e a (omega arith) (omega arith), go (suc a) n (λ j lo hi. e j (omega arith) (omega arith))) refl

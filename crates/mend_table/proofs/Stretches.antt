@@ -1,52 +1,53 @@
--- Where the ranges lie that mend and the check go through, over plain tables: a range and its sixteen parts, a table of whole regions; and what
--- `one_gpi` says of a range.
+-- Crate mend_table. Where the ranges lie that mend and the check go through, over plain tables: some of several, a range and its sixteen
+-- parts, a table of whole regions.
 -- Assumes nothing.
-use mathlib.Core.Path.{_≡_, refl, sym, _∙_}
-use mathlib.Core.Bool.{true, false}
+use mathlib.Core.Path.{_≡_, refl, ap, _∙_}
 use mathlib.Core.List.{List}
 use Prim.Native.Nat.{ℕ, suc, _+_, _*_, _/_, _<_, _≤_}
-use native.Mathlib.Nat.{mul-assoc, zero-mul, mul-div-cancel}
+use native.Mathlib.Nat.{add-mul, mul-assoc, one-mul, mul-div-cancel, mul-le-mul-right, le-mul-of-pos-right}
 use native.Mathlib.Omega.{arith}
 use lib.ListN.{length}
-use Rattle.gpi.specs.declared.Gpi.{Gpi}
-use Rattle.gpi.specs.declared.Nibble.{Nibble}
-use Rattle.gpi.specs.declared.Nibble.the-variants.{Known, Reserved}
-use Rattle.gpi.specs.Gpi.{num}
-use Rattle.theory.specs.Format.{gpi}
-use Rattle.theory.specs.Normal.{at, span}
-use Rattle.theory.specs.Onward.{single}
+use Rattle.theory.specs.Normal.{span}
 use Rattle.theory.proofs.Ranges.{span-pos}
-use Rattle.l1.specs.Arm.{arm}
-use Rattle.mend_table.specs.Ranges.{oneOf, Lies, Regions}
-use Rattle.mend_table.proofs.Single.{found, mixed}
+use Rattle.mend_table.specs.Mend.{Regions}
+use Rattle.mend_table.specs.Inner.{Lies}
 
-pub sixteen : (u l m : ℕ) → l ≡ suc m → 16 * span u m ≡ span u l
-unfolding span
-sixteen u l m e = rw e refl
+-- a range and its sixteen parts
+module _ (u : ℕ) {l m : ℕ} (z : l ≡ suc m) where
+  pub sixteen : 16 * span u m ≡ span u l
+  unfolding span
+  sixteen = rw z refl
 
-module _ {u l a : ℕ} {t : List ℕ} (p : Lies u l a (span u l) t) where
-  pub words-there : {n : ℕ} → n ≡ span u l → (0 < n) × (a + n ≤ length t)
-  words-there e = (omega (arith, e, span-pos u l (p .some)), omega (arith, e, p .inside))
+  pub parts-from : (p : ℕ) → p * 16 * span u m ≡ p * span u l
+  parts-from p = mul-assoc p 16 (span u m) ∙ ap (λ (x : ℕ). p * x) sixteen
 
-  pub parts-lie : {m : ℕ} → l ≡ suc m → Lies u m a (16 * span u m) t
-  parts-lie {m} z =
+module _ {u l p n : ℕ} {t : List ℕ} (h : Lies u l p n t) where
+  pub in-table : p + n ≤ length t
+  in-table = let q : p + n ≤ (p + n) * span u l = le-mul-of-pos-right (p + n) (span-pos u l (h .table .some)) in omega (arith, h .inside)
+
+  -- some of them; a mend keeps the table's length
+  pub some-lie : {q m : ℕ} {t₂ : List ℕ} → q + m ≤ p + n → length t₂ ≡ length t → Lies u l q m t₂
+  some-lie {q} {m} b e =
+      let k : (q + m) * span u l ≤ (p + n) * span u l = mul-le-mul-right (span u l) b in
       record {
-        level = omega (arith, p .level);
-        some = p .some;
-        few = p .few;
-        inside = rw (sixteen u l m z) (p .inside);
-        place = p .place * 16;
-        aligned = p .aligned ∙ rw (← (sixteen u l m z), mul-assoc (p .place) 16 (span u m)) refl;
+        table = record { some = h .table .some; few = h .table .few; regions = h .table .regions; whole = e ∙ h .table .whole };
+        inside = omega (arith, h .inside);
       }
 
-  module _ {n : ℕ} {x : Nibble} (e : n ≡ span u l) (o : x ≡ oneOf (at t) a n) where
-    -- what `one_gpi` says of it
-    pub of-one : {g : Gpi} → x ≡ Known g → (single arm (at t) a (span u l) ≡ true) × (num g ≡ gpi arm (at t a))
-    of-one {g} q = rw e at (found (at t) a n g (sym o ∙ q))
+module _ {u l p : ℕ} {t : List ℕ} (h : Lies u l p 1 t) where
+  pub words-there : {n : ℕ} → n ≡ span u l → (0 < n) × (p * n + n ≤ length t)
+  words-there {n} e =
+      let q : (p + 1) * n ≡ (p + 1) * span u l = ap (λ (x : ℕ). (p + 1) * x) e in
+      (omega (arith, e, span-pos u l (h .table .some)), omega (arith, simp (add-mul, one-mul) at q, h .inside))
 
-    pub of-none : x ≡ Reserved → single arm (at t) a (span u l) ≡ false
-    of-none q = rw e at (mixed (at t) a n (words-there e .0) (sym o ∙ q))
+  pub parts-lie : {m : ℕ} → l ≡ suc m → Lies u m (p * 16) 16 t
+  parts-lie {m} z =
+      record {
+        table = h .table;
+        inside = rw (add-mul (p * 16) 16 (span u m), parts-from u z p, sixteen u z) (omega (arith, words-there refl .1));
+      }
 
+-- a table of whole regions
 module _ {u : ℕ} {t : List ℕ} (p : Regions u t) {n : ℕ} (e : n ≡ span u 2) where
   pub regions-pos : 0 < n
   regions-pos = omega (arith, e, span-pos u 2 (p .some))
@@ -54,13 +55,5 @@ module _ {u : ℕ} {t : List ℕ} (p : Regions u t) {n : ℕ} (e : n ≡ span u 
   pub all-words : length t / n * span u 2 ≡ length t
   all-words = rw (e, p .whole, mul-div-cancel (p .regions) (span-pos u 2 (p .some))) refl
 
-  pub whole-lies : Lies u 2 0 (length t / n * span u 2) t
-  whole-lies =
-      record {
-        level = omega arith;
-        some = p .some;
-        few = p .few;
-        inside = omega (arith, all-words);
-        place = 0;
-        aligned = sym (zero-mul (span u 2));
-      }
+  pub whole-lies : Lies u 2 0 (length t / n) t
+  whole-lies = record { table = p; inside = omega (arith, all-words) }

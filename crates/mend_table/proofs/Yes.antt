@@ -1,4 +1,4 @@
--- What the check's yes means: the table is its own normal table, and no mend of it writes anything.
+-- Crate mend_table. What the check's yes means: the table is its own normal table, and no mend of it writes anything.
 -- Assumes nothing.
 use mathlib.Core.Path.{_≡_, refl, sym, ap, _∙_}
 use mathlib.Core.Bool.{Bool, true, false, _&&_, cond}
@@ -17,7 +17,7 @@ use Rattle.theory.specs.Mend.{differing, mend, mendCount}
 use Rattle.theory.proofs.Lists.{every-at, every-of}
 use Rattle.theory.proofs.Normal.{length-normal, at-normal, same-normal}
 use Rattle.theory.proofs.Mend.{Upward, mend-upward, mendCount-is, length-mend, differing-few}
-use Rattle.mend_table.specs.Normal.{isNormal, fits}
+use Rattle.mend_table.specs.Normal.{isNormal}
 
 -- no word differs exactly if every word is the other's
 none-differing : (r h : ℕ → ℕ) (a n : ℕ) → eqb (differing r h a n) 0 ≡ every (λ i. eqb (r i) (h i)) a n
@@ -35,14 +35,13 @@ module _ (F : Format) (u : ℕ) (t : List ℕ) where
   unlimited = mendCount-is F u (length t) t ∙ omega (arith, differing-few (at t) (normalWord F u (at t)) 0 (length t))
 
   -- the check asks each word whether it is normal
-  pub normal-fits : isNormal F u t ≡ fits F u (at t) 3 0 (length t)
-  unfolding isNormal fits
+  pub normal-fits : isNormal F u t ≡ every (λ i. eqb (at t i) (normalWord F u (at t) i)) 0 (length t)
+  unfolding isNormal
   normal-fits = ap (λ (n : ℕ). eqb n 0) unlimited ∙ none-differing (at t) (normalWord F u (at t)) 0 (length t)
 
   -- ---- THE THEOREMS
 
   every-normal : isNormal F u t ≡ true → (i : ℕ) → i < length t → at t i ≡ normalWord F u (at t) i
-  unfolding fits
   every-normal y i b =
       eqb-true (at t i) (normalWord F u (at t) i)
       (every-at (λ j. eqb (at t j) (normalWord F u (at t) j)) 0 (length t) (sym normal-fits ∙ y) i (omega arith) (omega arith))
@@ -69,7 +68,10 @@ module _ (F : Format) (u : ℕ) (t : List ℕ) where
   no-stores n k pos = go (ℕ-discrete (mendCount F u (length t) t) 0)
     where
       go : Dec (mendCount F u (length t) t ≡ 0) → 0 < mendCount F u k t
-      go (yes z) = let q : true ≡ false = sym (eq-eqb (mendCount F u (length t) t) 0 z) ∙ n in let z : _≡_ {A = ℕ} 0 1 = cc in absurd (omega arith)
+      go (yes z) =
+          let q : true ≡ false = sym (eq-eqb (mendCount F u (length t) t) 0 z) ∙ n in
+          let z : _≡_ {A = ℕ} 0 1 = cc in
+          absurd (omega arith)
       go (no z) = omega (arith, mendCount-is F u k t, unlimited)
 
 -- It says yes exactly if the table is its own normal table.
@@ -78,7 +80,6 @@ module _ (F : Format) (L : Laws F) (u : ℕ) (t : List ℕ) where
   yes-normal y = ext-getD 0 t (normal F u t) (sym (length-normal F L u t)) (λ i b. every-normal F u t y i b ∙ sym (at-normal F L u t i b))
 
   pub normal-yes : t ≡ normal F u t → isNormal F u t ≡ true
-  unfolding fits
   normal-yes e =
       normal-fits F u t
       ∙ every-of (λ j. eqb (at t j) (normalWord F u (at t) j)) 0 (length t)

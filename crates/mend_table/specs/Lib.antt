@@ -1,3 +1,3 @@
+pub mod Mend
 pub mod Normal
-pub mod Ranges
-pub mod Mends
+pub mod Inner

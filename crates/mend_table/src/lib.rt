@@ -1,28 +1,60 @@
-// A range of words of one GPI: what mend and the check ask of each range, down the sizes. Added by the port.
-// Mend of one L1 table. Added by the port: the Rust has none.
-// It goes down the sizes: a range of one GPI becomes that contiguous word, else its sixteen parts are mended by the same rule, a 2 MB part word by
-// word. So a word is read a few times, whatever the table holds: for each size, and where it is written; never a whole range again for each word.
-// The check of one L1 table: whether it is normal. Added by the port: the Rust has none.
-// A region is judged by its sixteen parts, each part by the same rule one size down, a 2 MB part by its words.
+// mend_table: the mend and the check of one L1 table. Added by the port: the Rust has neither.
+// Both go down the sizes. A range is judged: one of one GPI is to be that contiguous word, any other is judged by its sixteen parts, and a
+// 2 MB part by its words. Mend makes the words so, the check asks whether they are. So a word is read a few times, whatever the table
+// holds: for each size, and where it is written; never a whole range again for each word. The ranges of a size are numbered from the
+// table's start: range p, of n words, begins at word p * n.
 ghost use mathlib.Core.Path.{_≡_};
-ghost use Prim.Native.Nat.{_+_, _≤_, _<_, _*_, suc};
-ghost use lib.Dec.{eqb};
+ghost use Prim.Native.Nat.{_+_, _≤_, _<_, _*_};
 ghost use lib.ListN.{length};
-ghost use Rattle.theory.specs.Normal.{at, every, span as spanOf};
-ghost use Rattle.l1.specs.L1.{flat as flatAt};
-ghost use Rattle.mend_table.specs.Ranges.{oneOf, Lies, Regions};
+ghost use Rattle.theory.specs.Normal.{at, every};
 ghost use Rattle.theory.specs.Onward.{walked, step, Goes};
 ghost use Rattle.l1.specs.Arm.{levelOf, arm};
-ghost use Rattle.mend_table.specs.Mends.{Mends, Repaired};
-ghost use Rattle.mend_table.specs.Normal.{isNormal, fits};
+ghost use Rattle.mend_table.specs.declared.Test.the-variants.{Alike};
+ghost use Rattle.mend_table.specs.Inner.{wantedAt, passed, Lies, OneIs, Judges, Mends, Fits};
+ghost use Rattle.mend_table.specs.Mend.{Regions, Repaired};
+ghost use Rattle.mend_table.specs.Normal.{isNormal};
+use gpi::Gpi;
 use gpi::Nibble;
 use gpi::Size;
 use gpi::SizeCode;
 
-// Whether v reads as w does, where f is w's granules.
+// What the words of a range are to be: this word, or each its own granules.
+enum Want {
+    Word(u64),
+    Flat,
+}
+
+// What a scan asks of each word: that it is what is wanted; or that it reads as this word does, whose granules are these.
+enum Test {
+    Is(Want),
+    Alike(u64, u64),
+}
+
+// Of what GPI a range is: valid throughout and of this one, or not so.
+enum One {
+    Gpi(Gpi),
+    Mixed,
+}
+
+// What a range is to be: these words, or what its sixteen parts of this size are to be.
+enum Judged {
+    Words(Want),
+    Parts(Size),
+}
+
+// The word that v is to be.
+fn wanted(want: Want, v: u64) -> u64
+    ensures { λ r. ⌜ r ≡ wantedAt arm want v ⌝ }
+{
+    match want {
+        Want::Word(w) => w,
+        Want::Flat => l1::flat(v),
+    }
+}
+
+// Whether v is the word w, or has the granules f. Most words of a range are equal: their granules aren't asked for.
 fn alike(v: u64, w: u64, f: u64) -> bool
-    requires { ⌜ f ≡ flatAt w ⌝ }
-    ensures { λ r. ⌜ r ≡ eqb (flatAt v) f ⌝ }
+    ensures { λ r. ⌜ r ≡ passed arm (Alike w f) v ⌝ }
 {
     if v == w {
         return true;
@@ -30,15 +62,25 @@ fn alike(v: u64, w: u64, f: u64) -> bool
     l1::flat(v) == f
 }
 
-// Whether n words from a read as w does.
-fn all_alike(t: &[u64], a: usize, n: usize, w: u64, f: u64) -> bool
-    requires { ⌜ f ≡ flatAt w ⌝ }
-    requires { ⌜ a + n ≤ length (now t) ⌝ }
-    ensures { λ r. ⌜ r ≡ every (λ j. eqb (flatAt (at (now (t .entry)) j)) f) a n ⌝ }
+// Whether v passes.
+fn passes(test: Test, v: u64) -> bool
+    ensures { λ r. ⌜ r ≡ passed arm test v ⌝ }
 {
+    match test {
+        Test::Is(want) => v == wanted(want, v),
+        Test::Alike(w, f) => alike(v, w, f),
+    }
+}
+
+// Whether the words of range p, of n words, pass.
+fn all_pass(t: &[u64], p: usize, n: usize, test: Test) -> bool
+    requires { ⌜ p * n + n ≤ length (now t) ⌝ }
+    ensures { λ r. ⌜ r ≡ every (λ j. passed arm test (at (now (t .entry)) j)) (p * n) n ⌝ }
+{
+    let a = p * n;
     let mut i: usize = 0;
     while i < n {
-        if alike(t[a + i], w, f) {
+        if passes(test, t[a + i]) {
             i += 1;
         } else {
             return false;
@@ -47,22 +89,43 @@ fn all_alike(t: &[u64], a: usize, n: usize, w: u64, f: u64) -> bool
     true
 }
 
-// The GPI of n words from a, where all of them are valid and of one. No word's sixteen nibbles are looked at: the lowest word's granules are
-// one GPI sixteen times, and every other word's granules are the same.
-pub fn one_gpi(t: &[u64], a: usize, n: usize) -> Nibble
-    requires { ⌜ (0 < n) × (a + n ≤ length (now t)) ⌝ }
-    ensures { λ r. ⌜ r ≡ oneOf (at (now (t .entry))) a n ⌝ }
+// The one GPI of range p, of n words. No word's sixteen nibbles are looked at: the lowest word's granules are one GPI sixteen times, and
+// every other word's granules are the same.
+fn one_gpi(t: &[u64], p: usize, n: usize) -> One
+    requires { ⌜ (0 < n) × (p * n + n ≤ length (now t)) ⌝ }
+    ensures { λ r. ⌜ OneIs arm (at (now (t .entry))) (p * n) n r ⌝ }
 {
-    let w = t[a];
+    let w = t[p * n];
     let f = l1::flat(w);
-    let g = f % 16;
-    if f == g * 0x1111_1111_1111_1111 {
-        if all_alike(t, a, n, w, f) {
-            return gpi::gpi_of(g);
+    if f == f % 16 * 0x1111_1111_1111_1111 {
+        match gpi::gpi_of(f % 16) {
+            Nibble::Known(g) => {
+                if all_pass(t, p, n, Test::Alike(w, f)) {
+                    One::Gpi(g)
+                } else {
+                    One::Mixed
+                }
+            }
+            Nibble::Reserved => One::Mixed,
         }
-        return Nibble::Reserved;
+    } else {
+        One::Mixed
     }
-    Nibble::Reserved
+}
+
+// What range p of size s is to be; u words are 2 MB. Mend and the check both ask here.
+fn judge(t: &[u64], u: usize, s: Size, p: usize) -> Judged
+    requires { ⌜ Lies u (levelOf s) p 1 (now t) ⌝ }
+    ensures { λ r. ⌜ Judges arm u (levelOf s) p (at (now (t .entry))) r ⌝ }
+{
+    let n = l1::span(u, s);
+    match one_gpi(t, p, n) {
+        One::Gpi(g) => Judged::Words(Want::Word(l1::contig(s, g))),
+        One::Mixed => match gpi::next_smaller(s) {
+            SizeCode::Is(smaller) => Judged::Parts(smaller),
+            SizeCode::None => Judged::Words(Want::Flat),
+        },
+    }
 }
 
 // Word i becomes w if it differs and fewer stores are made than the limit. The only place that stores.
@@ -80,71 +143,54 @@ fn put(t: &mut [u64], i: usize, w: u64, limit: u64, made: u64) -> u64
     made
 }
 
-// n words from a become w, upward.
-fn put_all(t: &mut [u64], a: usize, n: usize, w: u64, limit: u64, made: u64) -> u64
-    requires { ⌜ a + n ≤ length (now t) ⌝ }
-    ensures { λ r. ⌜ Goes limit (λ _. w) a n (now (t .entry)) made (now (t .exit)) r ⌝ }
+// The words of range p, of n words, become what is wanted, upward.
+fn put_range(t: &mut [u64], p: usize, n: usize, want: Want, limit: u64, made: u64) -> u64
+    requires { ⌜ p * n + n ≤ length (now t) ⌝ }
+    ensures { λ r. ⌜ Goes limit (λ i. wantedAt arm want (at (now (t .entry)) i)) (p * n) n (now (t .entry)) made (now (t .exit)) r ⌝ }
 {
+    let a = p * n;
     let mut d = made;
     let mut i: usize = 0;
     while i < n {
+        let w = wanted(want, t[a + i]);
         d = put(t, a + i, w, limit, d);
         i += 1;
     }
     d
 }
 
-// n words from a become their granules, upward.
-fn put_flat(t: &mut [u64], a: usize, n: usize, limit: u64, made: u64) -> u64
-    requires { ⌜ a + n ≤ length (now t) ⌝ }
-    ensures { λ r. ⌜ Goes limit (λ i. flatAt (at (now (t .entry)) i)) a n (now (t .entry)) made (now (t .exit)) r ⌝ }
-{
-    let mut d = made;
-    let mut i: usize = 0;
-    while i < n {
-        let w = l1::flat(t[a + i]);
-        d = put(t, a + i, w, limit, d);
-        i += 1;
-    }
-    d
-}
-
-// The range of size s at a; u words are 2 MB.
-fn mend_region(t: &mut [u64], u: usize, s: Size, a: usize, limit: u64, made: u64) -> u64
-    requires { ⌜ Lies u (levelOf s) a (spanOf u (levelOf s)) (now t) ⌝ }
-    ensures { λ r. ⌜ Mends u (levelOf s) limit a (spanOf u (levelOf s)) (now (t .entry)) made (now (t .exit)) r ⌝ }
+// Range p of size s becomes what it is judged to be.
+fn mend_region(t: &mut [u64], u: usize, s: Size, p: usize, limit: u64, made: u64) -> u64
+    requires { ⌜ Lies u (levelOf s) p 1 (now t) ⌝ }
+    ensures { λ r. ⌜ Mends arm u (levelOf s) limit p 1 (now (t .entry)) made (now (t .exit)) r ⌝ }
 {
     if limit <= made {
         return made;
     }
     let n = l1::span(u, s);
-    match one_gpi(&t[..], a, n) {
-        Nibble::Known(g) => put_all(t, a, n, l1::contig(s, g), limit, made),
-        Nibble::Reserved => match gpi::next_smaller(s) {
-            SizeCode::Is(smaller) => mend_parts(t, u, smaller, a, 16, limit, made),
-            SizeCode::None => put_flat(t, a, n, limit, made),
-        },
+    match judge(&t[..], u, s, p) {
+        Judged::Words(want) => put_range(t, p, n, want, limit, made),
+        Judged::Parts(smaller) => mend_parts(t, u, smaller, p * 16, 16, limit, made),
     }
 }
 
-// The next `count` ranges of size s from a.
+// `count` ranges of size s from range p. A loop: a call for each range would take up the stack.
 fn mend_parts(
     t: &mut [u64],
     u: usize,
     s: Size,
-    a: usize,
+    p: usize,
     count: usize,
     limit: u64,
     made: u64,
 ) -> u64
-    requires { ⌜ Lies u (levelOf s) a (count * spanOf u (levelOf s)) (now t) ⌝ }
-    ensures { λ r. ⌜ Mends u (levelOf s) limit a (count * spanOf u (levelOf s)) (now (t .entry)) made (now (t .exit)) r ⌝ }
+    requires { ⌜ Lies u (levelOf s) p count (now t) ⌝ }
+    ensures { λ r. ⌜ Mends arm u (levelOf s) limit p count (now (t .entry)) made (now (t .exit)) r ⌝ }
 {
-    let n = l1::span(u, s);
     let mut d = made;
     let mut i: usize = 0;
     while i < count {
-        d = mend_region(t, u, s, a + i * n, limit, d);
+        d = mend_region(t, u, s, p + i, limit, d);
         i += 1;
     }
     d
@@ -159,64 +205,28 @@ pub fn mend_table(t: &mut [u64], unit: usize, limit: u64) -> u64
     mend_parts(t, unit, Size::MB512, 0, m, limit, 0)
 }
 
-// Whether n words from a are w.
-fn all_are(t: &[u64], a: usize, n: usize, w: u64) -> bool
-    requires { ⌜ a + n ≤ length (now t) ⌝ }
-    ensures { λ r. ⌜ r ≡ every (λ j. eqb (at (now (t .entry)) j) w) a n ⌝ }
-{
-    let mut i: usize = 0;
-    while i < n {
-        if t[a + i] == w {
-            i += 1;
-        } else {
-            return false;
-        }
-    }
-    true
-}
-
-// Whether n words from a are their granules.
-fn all_flat(t: &[u64], a: usize, n: usize) -> bool
-    requires { ⌜ a + n ≤ length (now t) ⌝ }
-    ensures { λ r. ⌜ r ≡ every (λ j. eqb (at (now (t .entry)) j) (flatAt (at (now (t .entry)) j))) a n ⌝ }
-{
-    let mut i: usize = 0;
-    while i < n {
-        if t[a + i] == l1::flat(t[a + i]) {
-            i += 1;
-        } else {
-            return false;
-        }
-    }
-    true
-}
-
-// The range of size s at a: of one GPI, its words are that contiguous word; else its sixteen parts are judged by the same rule, and a 2 MB
-// part by its words.
-fn region(t: &[u64], u: usize, s: Size, a: usize) -> bool
-    requires { ⌜ Lies u (levelOf s) a (spanOf u (levelOf s)) (now t) ⌝ }
-    ensures { λ r. ⌜ r ≡ fits arm u (at (now (t .entry))) (suc (levelOf s)) a (spanOf u (levelOf s)) ⌝ }
+// Whether range p of size s is what it is judged to be.
+fn region(t: &[u64], u: usize, s: Size, p: usize) -> bool
+    requires { ⌜ Lies u (levelOf s) p 1 (now t) ⌝ }
+    ensures { λ r. ⌜ Fits arm u (levelOf s) p 1 (now (t .entry)) r ⌝ }
 {
     let n = l1::span(u, s);
-    match one_gpi(t, a, n) {
-        Nibble::Known(g) => all_are(t, a, n, l1::contig(s, g)),
-        Nibble::Reserved => match gpi::next_smaller(s) {
-            SizeCode::Is(smaller) => parts(t, u, smaller, a, 16),
-            SizeCode::None => all_flat(t, a, n),
-        },
+    match judge(t, u, s, p) {
+        Judged::Words(want) => all_pass(t, p, n, Test::Is(want)),
+        Judged::Parts(smaller) => parts(t, u, smaller, p * 16, 16),
     }
 }
 
-// The next `left` ranges of size s from a.
-fn parts(t: &[u64], u: usize, s: Size, a: usize, left: usize) -> bool
-    requires { ⌜ Lies u (levelOf s) a (left * spanOf u (levelOf s)) (now t) ⌝ }
-    ensures { λ r. ⌜ r ≡ fits arm u (at (now (t .entry))) (suc (levelOf s)) a (left * spanOf u (levelOf s)) ⌝ }
+// The next `left` ranges of size s from range p.
+fn parts(t: &[u64], u: usize, s: Size, p: usize, left: usize) -> bool
+    requires { ⌜ Lies u (levelOf s) p left (now t) ⌝ }
+    ensures { λ r. ⌜ Fits arm u (levelOf s) p left (now (t .entry)) r ⌝ }
 {
     if left == 0 {
         return true;
     }
-    if region(t, u, s, a) {
-        return parts(t, u, s, a + l1::span(u, s), left - 1);
+    if region(t, u, s, p) {
+        return parts(t, u, s, p + 1, left - 1);
     }
     false
 }

@@ -1,4 +1,4 @@
--- `mend_table::mend_table` meets its contract.
+-- Crate mend_table: `mend_table` meets its contract.
 -- Assumes nothing.
 use Rattle.mend_table.proofs.Stretches.{regions-pos, whole-lies}
 use Rattle.mend_table.proofs.Walks.{whole-mended}
@@ -14,7 +14,9 @@ mend-parts-requires c κs = whole-lies (c .before .before .before .pre) (c .befo
 
 returns : tie.Need-returns
 returns c =
-    whole-mended (c .before .before .before .before .before .before .pre) (c .before .before .before .before .span .ensures) (c .before .before .mend-parts .ensures)
+    let p = c .before .before in
+    let n = p .before .before in
+    whole-mended (n .before .before .pre) (n .span .ensures) (p .mend-parts .ensures)
 
 pub mend-table-spec : {M : Type 1} → statement M
 mend-table-spec = tie.close (tie.spec (λ c κs. search needs) div-m mend-parts-requires (λ c. search needs) returns)

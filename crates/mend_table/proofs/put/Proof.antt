@@ -1,4 +1,4 @@
--- `mend_table::put` meets its contract.
+-- Crate mend_table: `put` meets its contract.
 -- Assumes nothing.
 use Rattle.theory.proofs.Onward.{step-same, step-full, step-store}
 use borrow.Author.Needs.{needs}
