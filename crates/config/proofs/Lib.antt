@@ -1,4 +1,5 @@
 pub mod Bounds
 pub mod Cases
+pub mod Flags
 pub mod Geometry
 pub mod IndexCases
