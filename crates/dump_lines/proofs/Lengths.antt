@@ -1,18 +1,20 @@
--- How long each line is, and each piece of it.
+-- How long each line is, and each piece of it. Crate `dump_lines`.
 -- Assumes nothing.
 use mathlib.Core.Path.{_≡_, ap, ap₂, _∙_}
 use mathlib.Core.List.{List, [], _∷_, _++_}
-use Prim.Native.Nat.{ℕ, suc, _+_, _-_, _≤_}
+use Prim.Native.Nat.{ℕ, suc, _+_, _-_, _≤_, _<_}
 use native.Mathlib.Omega.{arith}
 use lib.ListN.{length, length-append}
 use Rattle.gpi.specs.declared.Gpi.{Gpi}
 use Rattle.gpi.specs.declared.Gpi.the-variants.{NoAccess, SystemAgent, NonSecureProtected, NoAccess6, NoAccess7, Secure, NonSecure, Root, Realm, NonSecureOnly, Any}
 use Rattle.config.specs.declared.Widths.{Widths}
 use Rattle.resolve.specs.Refusals.{refusalNumber}
+use Rattle.resolve.proofs.Numbers.{refusal-number}
 use Rattle.gpt.specs.declared.Looked.{Looked}
 use Rattle.gpt.specs.declared.Looked.the-variants.{Ok, Refused}
 use Rattle.dump_lines.specs.Digits.{hex, dec}
-use Rattle.dump_lines.proofs.Bytes.{length-hex, length-dec}
+use Rattle.dump_lines.proofs.Bytes.{length-hex}
+use Rattle.dump_lines.proofs.Decimal.{length-dec}
 use Rattle.dump_lines.specs.declared.Run.{Run}
 use Rattle.dump_lines.specs.Lines.{ascii, gpiName, name, line, header, told}
 
@@ -29,10 +31,14 @@ length-gpi Realm = omega arith
 length-gpi NonSecureOnly = omega arith
 length-gpi Any = omega arith
 
+-- a number below 100, as widths and refusals are
+pub short-dec : (n : ℕ) → n < 100 → length (dec n) ≤ 2
+short-dec n h = length-dec 1 n h
+
 -- the longest name
 pub length-name : (a : Looked) → length (name a) ≤ 18
 length-name (Ok g) = length-gpi g
-length-name (Refused r) = let h = length-dec (refusalNumber r) in omega arith
+length-name (Refused r) = let n = refusal-number r .1 in let h = short-dec (refusalNumber r) (omega arith) in omega arith
 
 pub length-line : (r : Run) → length (line r) ≡ 29 + length (name (r .answer))
 unfolding line

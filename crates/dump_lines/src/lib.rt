@@ -1,5 +1,4 @@
-// Bytes and numbers put into a lent buffer from a place on: what the dump's lines are made of. Added by the port.
-// The dump's lines as bytes, each put into a lent buffer from a place on. Added by the port.
+// The dump's lines as bytes, and the numbers in them, each put into a lent buffer from a place on. Added by the port.
 ghost use mathlib.Core.Path.{_≡_};
 ghost use mathlib.Core.List.{_++_};
 ghost use Prim.Native.Nat.{_+_, _≤_, _<_, _^_};
@@ -49,23 +48,32 @@ pub fn put_hex(out: &mut [u8], at: usize, n: usize, x: u64) -> usize
 
 // How long a number is in decimal.
 pub fn dec_len(x: u64) -> usize
-    ensures { λ r. ⌜ (r ≡ length (dec x)) × (r ≤ 2) ⌝ }
+    ensures { λ r. ⌜ (r ≡ length (dec x)) × (r ≤ 20) ⌝ }
 {
-    if x < 10 { 1 } else { 2 }
+    let mut n: usize = 1;
+    let mut v = x;
+    while 9 < v {
+        v = v / 10;
+        n += 1;
+    }
+    n
 }
 
-// A number in decimal.
+// A number in decimal, from its last digit on.
 fn put_dec(out: &mut [u8], at: usize, x: u64) -> usize
     requires { ⌜ at + length (dec x) ≤ length (now out) ⌝ }
     ensures { λ r. ⌜ Put (now (out .entry)) at (dec x) (now (out .exit)) r ⌝ }
 {
-    if x < 10 {
-        out[at] = 48 + x as u8;
-        return at + 1;
+    let end = at + dec_len(x);
+    let mut i = end - 1;
+    let mut v = x;
+    while 9 < v {
+        out[i] = 48 + (v % 10) as u8;
+        i -= 1;
+        v = v / 10;
     }
-    out[at] = 48 + ((x / 10) % 10) as u8;
-    out[at + 1] = 48 + (x % 10) as u8;
-    at + 2
+    out[i] = 48 + v as u8;
+    end
 }
 
 // What is said, and a number.
