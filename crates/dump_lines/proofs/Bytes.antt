@@ -33,6 +33,14 @@ one-put o i x = record { bytes = refl; place = refl }
 pub put-length : {o o₁ a : List ℕ} {i m : ℕ} → Put o i a o₁ m → length o₁ ≡ length o
 put-length {o} {o₁} {a} {i} p = ap length (p .bytes) ∙ length-sets o i a
 
+-- where there is room for two one after the other, there is room for the first ..
+pub room-first : (a b : List ℕ) (i n : ℕ) → i + length (a ++ b) ≤ n → i + length a ≤ n
+room-first a b i n h = let l = length-append a b in omega arith
+
+-- .. and, once it is put, for the second
+pub room-next : (a b : List ℕ) {o o₁ : List ℕ} {i m : ℕ} → Put o i a o₁ m → i + length (a ++ b) ≤ length o → m + length b ≤ length o₁
+room-next a b p h = let l = length-append a b in let k = put-length p in let e = p .place in omega arith
+
 -- a byte behind them may be put first
 pub set-behind : (o : List ℕ) (i : ℕ) (a : List ℕ) (j d : ℕ) → i + length a ≤ j → set (sets o i a) j d ≡ sets (set o j d) i a
 set-behind o i [] j d h = refl

@@ -16,7 +16,7 @@ use Rattle.dump_lines.specs.Digits.{hex, dec}
 use Rattle.dump_lines.proofs.Bytes.{length-hex}
 use Rattle.dump_lines.proofs.Decimal.{length-dec}
 use Rattle.dump_lines.specs.declared.Run.{Run}
-use Rattle.dump_lines.specs.Lines.{ascii, gpiName, name, line, header, told}
+use Rattle.dump_lines.specs.Lines.{ascii, gpiName, name, space, address, line, header, told}
 
 length-gpi : (g : Gpi) → length (gpiName g) ≤ 18
 length-gpi NoAccess = omega arith
@@ -40,12 +40,15 @@ pub length-name : (a : Looked) → length (name a) ≤ 18
 length-name (Ok g) = length-gpi g
 length-name (Refused r) = let n = refusal-number r .1 in let h = short-dec (refusalNumber r) (omega arith) in omega arith
 
+pub length-address : (x : ℕ) → length (address x) ≡ 14
+unfolding address
+length-address x = length-append (hex 13 x) space ∙ ap (λ (k : ℕ). k + 1) (length-hex 13 x)
+
 pub length-line : (r : Run) → length (line r) ≡ 29 + length (name (r .answer))
 unfolding line
 length-line r =
-    length-append (hex 13 (r .start)) _ ∙ ap₂ (λ (a b : ℕ). a + suc b) (length-hex 13 (r .start))
-    (length-append (hex 13 (r .last)) _ ∙ ap₂ (λ (a b : ℕ). a + suc b) (length-hex 13 (r .last)) (length-append (name (r .answer)) (10 ∷ [])))
-    ∙ omega arith
+    let a = length-address (r .start) in let b = length-address (r .last) in
+    simp length-append (omega arith)
 
 pub length-header : (w : Widths) → length (header w) ≡ 18 + length (dec (w .pps)) + length (dec (w .pgs)) + length (dec (w .l0gptsz))
 unfolding header
