@@ -1,9 +1,7 @@
 -- The C interface's numbers: docs/ABI.md. What comes with an answer is packed with it into one number.
 -- Assumes nothing: these are definitions.
-use mathlib.Core.Bool.{Bool, cond}
-use Prim.Native.Nat.{ℕ, _+_, _*_, _/_, _%_, _≤_}
-use lib.Dec.{eqb}
-use Rattle.config.specs.declared.Config.{Config}
+use mathlib.Core.Bool.{cond}
+use Prim.Native.Nat.{ℕ, _+_, _*_, _≤_}
 use Rattle.gpt.specs.declared.Looked.{Looked}
 use Rattle.gpt.specs.Lookup.{lookedNumber, lookedGpi}
 use Rattle.gpt.specs.declared.Changed.{Changed}
@@ -11,27 +9,6 @@ use Rattle.gpt.specs.Set.{changedNumber, changedRecords, changedStores}
 use Rattle.mend.specs.declared.Mended.{Mended}
 use Rattle.mend.specs.declared.Checked.{Checked}
 use Rattle.mend.specs.Outcome.{mendedNumber, mendedStores, checkedNumber, checkedYes}
-
--- the flag of weight d in the flags byte
-abbrev pub bitOf : ℕ → ℕ → Bool
-bitOf f d = eqb (f / d % 2) 1
-
--- "flags (bits 0 to 7: GPC, SA, NSP, NA6, NA7, NSO, GDI, GPC2)"
-abbrev pub configOf : ℕ → ℕ → ℕ → ℕ → Config
-configOf p g l f =
-    record {
-      pps = p;
-      pgs = g;
-      l0gptsz = l;
-      gpc = bitOf f 1;
-      sa = bitOf f 2;
-      nsp = bitOf f 4;
-      na6 = bitOf f 8;
-      na7 = bitOf f 16;
-      nso = bitOf f 32;
-      gdi = bitOf f 64;
-      gpc2 = bitOf f 128;
-    }
 
 -- answer + 2^8 * gpi
 unfoldable pub lookedPacked : Looked → ℕ

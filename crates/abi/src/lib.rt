@@ -1,47 +1,19 @@
-// The C interface's numbers: docs/ABI.md. Fields and flags made a configuration, and each call's answer made one number.
 // The C interface: docs/ABI.md. Each export packs what its call answers into one number; what it leaves is what the call leaves.
 ghost use mathlib.Core.Path.{_≡_};
 ghost use Prim.Native.Nat.{_+_, _*_, _<_, _≤_};
-ghost use Rattle.abi.specs.Packed.{bitOf, configOf, lookedPacked, changedPacked, mendedPacked, checkedPacked, Small, Few};
+ghost use Rattle.abi.specs.Packed.{lookedPacked, changedPacked, mendedPacked, checkedPacked, Small, Few};
+ghost use Rattle.config.specs.Flags.{configOf};
 ghost use Rattle.resolve.specs.Lent.{lent};
 ghost use Rattle.gpt.specs.Lookup.{lookupOf};
 ghost use Rattle.gpt.specs.Set.{setOf};
 ghost use Rattle.mend.specs.Outcome.{mendOf, checkOf};
 ghost use Rattle.abi.specs.Left.{SetLeft, MendLeft};
-use config::Config;
 use gpt::Changed;
 use gpt::Looked;
 use mend::Checked;
 use mend::Mended;
 use pa::PA;
 use stores::Tally;
-
-// The flag of weight d in the flags byte.
-fn bit(flags: u8, d: u8) -> bool
-    requires { ⌜ 0 < d ⌝ }
-    ensures { λ r. ⌜ r ≡ bitOf flags d ⌝ }
-{
-    (flags / d) % 2 == 1
-}
-
-// The configuration of three fields and the flags byte.
-pub fn config(pps: u8, pgs: u8, l0gptsz: u8, flags: u8) -> Config
-    ensures { λ r. ⌜ r ≡ configOf pps pgs l0gptsz flags ⌝ }
-{
-    Config {
-        pps,
-        pgs,
-        l0gptsz,
-        gpc: bit(flags, 1),
-        sa: bit(flags, 2),
-        nsp: bit(flags, 4),
-        na6: bit(flags, 8),
-        na7: bit(flags, 16),
-        nso: bit(flags, 32),
-        gdi: bit(flags, 64),
-        gpc2: bit(flags, 128),
-    }
-}
 
 // A lookup's answer, with its GPI.
 pub fn pack_looked(s: Looked) -> u64
@@ -108,7 +80,7 @@ pub extern "C" fn gpt_lookup(
 ) -> u64
     ensures { λ r. ⌜ r ≡ lookedPacked (lookupOf (lent (configOf pps pgs l0gptsz flags) (now (l0 .entry)) (now (arena .entry)) base) address) ⌝ }
 {
-    let c = config(pps, pgs, l0gptsz, flags);
+    let c = config::from_flags(pps, pgs, l0gptsz, flags);
     pack_looked(gpt::lookup(c, l0, arena, PA(base), PA(address)))
 }
 
@@ -128,7 +100,7 @@ pub extern "C" fn gpt_set(
 ) -> u64
     ensures { λ r. ⌜ SetLeft (setOf (lent (configOf pps pgs l0gptsz flags) (now (l0 .entry)) (now (arena .entry)) base) (now (log .entry)) address gpi) r (now (arena .exit)) (now (log .exit)) ⌝ }
 {
-    let c = config(pps, pgs, l0gptsz, flags);
+    let c = config::from_flags(pps, pgs, l0gptsz, flags);
     pack_changed(gpt::set(c, l0, arena, PA(base), log, PA(address), gpi))
 }
 
@@ -147,7 +119,7 @@ pub extern "C" fn gpt_mend(
 ) -> u64
     ensures { λ r. ⌜ MendLeft (mendOf (lent (configOf pps pgs l0gptsz flags) (now (l0 .entry)) (now (arena .entry)) base) address limit) r (now (arena .exit)) ⌝ }
 {
-    let c = config(pps, pgs, l0gptsz, flags);
+    let c = config::from_flags(pps, pgs, l0gptsz, flags);
     pack_mended(mend::mend(c, l0, arena, PA(base), PA(address), limit))
 }
 
@@ -165,6 +137,6 @@ pub extern "C" fn gpt_check(
 ) -> u64
     ensures { λ r. ⌜ r ≡ checkedPacked (checkOf (lent (configOf pps pgs l0gptsz flags) (now (l0 .entry)) (now (arena .entry)) base) address) ⌝ }
 {
-    let c = config(pps, pgs, l0gptsz, flags);
+    let c = config::from_flags(pps, pgs, l0gptsz, flags);
     pack_checked(mend::check(c, l0, arena, PA(base), PA(address)))
 }

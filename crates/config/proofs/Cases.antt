@@ -7,10 +7,21 @@ use Rattle.gpi.specs.declared.Gpi.the-variants.{NonSecureOnly, NoAccess7, Secur
 use Rattle.config.specs.declared.Config.{Config}
 use Rattle.config.specs.declared.Configured.the-variants.{Ok}
 use Rattle.config.specs.Fields.{configuredOf, number, supportedOf}
+use Rattle.config.specs.Flags.{configOf, flagsOf}
 
 abbrev with : ℕ → ℕ → ℕ → Bool → Config
 with pps pgs l0 gpc =
     record { pps = pps; pgs = pgs; l0gptsz = l0; gpc = gpc; sa = false; nsp = false; na6 = false; na7 = true; nso = true; gdi = false; gpc2 = true }
+
+-- "PPS 0, L0GPTSZ 0, PGS 1, GPC on, all else off"
+all-else-off :
+    configOf 0 1 0 1 ≡ record { pps = 0; pgs = 1; l0gptsz = 0; gpc = true; sa = false; nsp = false; na6 = false; na7 = false; nso = false;
+      gdi = false; gpc2 = false }
+all-else-off = refl
+
+-- bits 0, 4, 5 and 7
+order : configOf 0 1 0 0b1011_0001 ≡ with 0 1 0 true
+order = refl
 
 -- arrangement B, and one L0 entry for the whole space
 base : configuredOf (with 0 1 0 true) ≡ Ok (record { pps = 32; pgs = 16; l0gptsz = 30 })

@@ -5,6 +5,7 @@ ghost use mathlib.Core.Path.{_≡_};
 ghost use mathlib.Core.Bool.{_&&_};
 ghost use Prim.Native.Nat.{_<_, _^_};
 ghost use Rattle.config.specs.Fields.{ppsWidth, pgsWidth, l0gptszWidth, configuredOf, supportedOf, Listed};
+ghost use Rattle.config.specs.Flags.{flagAt, configOf};
 ghost use Rattle.config.specs.Index.{l0Entries, l0Index, l1Words, l1Index, granuleIndex, granuleBytes, sizeWords};
 use gpi::Gpi;
 use gpi::Size;
@@ -23,6 +24,33 @@ pub struct Config {
     pub nso: bool,
     pub gdi: bool,
     pub gpc2: bool,
+}
+
+// Bit k of the flags: no other place knows how wide they are.
+fn flag(flags: u8, k: u8) -> bool
+    requires { ⌜ k < 8 ⌝ }
+    ensures { λ r. ⌜ r ≡ flagAt flags k ⌝ }
+{
+    (flags >> k) % 2 == 1
+}
+
+// The configuration of three fields and the flags, as the dump image and the C interface carry them.
+pub fn from_flags(pps: u8, pgs: u8, l0gptsz: u8, flags: u8) -> Config
+    ensures { λ r. ⌜ r ≡ configOf pps pgs l0gptsz flags ⌝ }
+{
+    Config {
+        pps,
+        pgs,
+        l0gptsz,
+        gpc: flag(flags, 0),
+        sa: flag(flags, 1),
+        nsp: flag(flags, 2),
+        na6: flag(flags, 3),
+        na7: flag(flags, 4),
+        nso: flag(flags, 5),
+        gdi: flag(flags, 6),
+        gpc2: flag(flags, 7),
+    }
 }
 
 // The address bits that a field's value means, where it is listed.

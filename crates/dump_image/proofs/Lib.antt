@@ -1,5 +1,4 @@
 pub mod Numbers
-pub mod Refusals
-pub mod Flags
+pub mod Fits
 pub mod RoundTrip
 pub mod Only

@@ -1,11 +1,11 @@
--- The dump's image as it is written: the bytes of a content, from document 01's list of fields. `proofs/RoundTrip` and `proofs/Only` show that
--- this and the reader are one format: what is written is read back, and only what is written reads as whole.
+-- The dump's image as it is written: the bytes of a content in a version, from document 01's list of fields. `proofs/RoundTrip` and `proofs/Only`
+-- show that this and the reader are one format: what is written is read back, and only what is written reads as whole. Crate `dump_image`.
 -- Assumes nothing: these are definitions.
-use mathlib.Core.Bool.{Bool, cond}
 use mathlib.Core.List.{List, [], _∷_, _++_}
-use Prim.Native.Nat.{ℕ, zero, suc, _+_, _*_, _/_, _%_, _^_, _≤_, _<_}
+use Prim.Native.Nat.{ℕ, zero, suc, _/_, _%_, _^_, _≤_, _<_}
 use lib.ListN.{length}
 use Rattle.config.specs.declared.Config.{Config}
+use Rattle.config.specs.Flags.{flagsOf}
 
 -- what an image is of
 pub record Content : Type 0 where
@@ -39,25 +39,19 @@ unfoldable pub wordsBytes : List ℕ → List ℕ
 wordsBytes [] = []
 wordsBytes (w ∷ ws) = bytes 8 w ++ wordsBytes ws
 
--- "flags (bits 0 to 7: GPC, SA, NSP, NA6, NA7, NSO, GDI, GPC2)"
-abbrev pub bit : Bool → ℕ → ℕ
-bit b k = cond b (2 ^ k) 0
+-- the fields of a version: "PPS, PGS, L0GPTSZ, flags"
+abbrev pub fieldsOf : ℕ → Config → List ℕ
+fieldsOf v c = c .pps ∷ c .pgs ∷ c .l0gptsz ∷ flagsOf c ∷ []
 
-abbrev pub flagsOf : Config → ℕ
-flagsOf c =
-    bit (c .gpc) 0 + bit (c .sa) 1 + bit (c .nsp) 2 + bit (c .na6) 3 + bit (c .na7) 4 + bit (c .nso) 5 + bit (c .gdi) 6 + bit (c .gpc2) 7
-
--- "8 x both counts"
-abbrev pub counted : Content → ℕ
-counted x = 8 * (length (x .l0) + length (x .arena))
-
--- "version byte 1; 4-byte length of the rest; then PPS, PGS, L0GPTSZ, flags, arena base (8), L0 count (4), arena count (4), L0 words, arena
--- words"; "Length is 20 + 8 x both counts"
-unfoldable pub imageOf : Content → List ℕ
-imageOf x =
-    (1 ∷ []) ++ (bytes 4 (20 + counted x)
-    ++ ((x .config .pps ∷ x .config .pgs ∷ x .config .l0gptsz ∷ flagsOf (x .config) ∷ [])
+-- ".. arena base (8), L0 count (4), arena count (4), L0 words, arena words"
+unfoldable pub restOf : ℕ → Content → List ℕ
+restOf v x =
+    fieldsOf v (x .config)
     ++ (bytes 8 (x .base)
     ++ (bytes 4 (length (x .l0))
     ++ (bytes 4 (length (x .arena))
-    ++ (wordsBytes (x .l0) ++ wordsBytes (x .arena)))))))
+    ++ (wordsBytes (x .l0) ++ wordsBytes (x .arena)))))
+
+-- "version byte 1; 4-byte length of the rest; then .."
+unfoldable pub imageOf : ℕ → Content → List ℕ
+imageOf v x = (v ∷ []) ++ (bytes 4 (length (restOf v x)) ++ restOf v x)

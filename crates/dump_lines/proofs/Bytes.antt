@@ -1,18 +1,16 @@
--- Laws of bytes put into a buffer, and how long a number is.
+-- Laws of bytes put into a buffer, and of hexadecimal digits. Crate `dump_lines`.
 -- Assumes nothing.
 use mathlib.Core.Path.{_≡_, refl, sym, ap, ap₂, _∙_}
-use mathlib.Core.Bool.{Bool, true, false}
 use mathlib.Core.List.{List, [], _∷_, _++_}
 use Prim.Native.Nat.{ℕ, zero, suc, _+_, _-_, _*_, _/_, _%_, _^_, _≤_, _<_}
 use native.Mathlib.Nat.{add-zero, mul-suc, not-suc-le-zero, pow-suc}
 use native.Mathlib.Numerals.{add-one}
 use native.Mathlib.Omega.{arith}
 use borrow.Author.Tests.{lt-ltb, le-ltb}
-use lib.Dec.{ltb}
 use lib.ListN.{length, getD, take, drop, set, length-append, drop-of-length-le}
 use lib.Pow.{pow-add}
-use lib.Seq.{sets, length-sets, drop-cons}
-use Rattle.dump_lines.specs.Digits.{digitOf, hex, dec, Put}
+use lib.Seq.{sets, set-comm, length-sets, drop-cons}
+use Rattle.dump_lines.specs.Digits.{digitOf, hex, Put}
 
 -- ---- one after another
 
@@ -34,6 +32,20 @@ one-put o i x = record { bytes = refl; place = refl }
 -- the buffer keeps its length
 pub put-length : {o o₁ a : List ℕ} {i m : ℕ} → Put o i a o₁ m → length o₁ ≡ length o
 put-length {o} {o₁} {a} {i} p = ap length (p .bytes) ∙ length-sets o i a
+
+-- where there is room for two one after the other, there is room for the first ..
+pub room-first : (a b : List ℕ) (i n : ℕ) → i + length (a ++ b) ≤ n → i + length a ≤ n
+room-first a b i n h = let l = length-append a b in omega arith
+
+-- .. and, once it is put, for the second
+pub room-next : (a b : List ℕ) {o o₁ : List ℕ} {i m : ℕ} → Put o i a o₁ m → i + length (a ++ b) ≤ length o → m + length b ≤ length o₁
+room-next a b p h = let l = length-append a b in let k = put-length p in let e = p .place in omega arith
+
+-- a byte behind them may be put first
+pub set-behind : (o : List ℕ) (i : ℕ) (a : List ℕ) (j d : ℕ) → i + length a ≤ j → set (sets o i a) j d ≡ sets (set o j d) i a
+set-behind o i [] j d h = refl
+set-behind o i (x ∷ a) j d h =
+    set-behind (set o i x) (suc i) a j d (omega arith) ∙ ap (λ (l : List ℕ). sets l (suc i) a) (set-comm o i j x d (λ e. absurd (omega arith)))
 
 -- ---- a copy
 
@@ -85,21 +97,3 @@ digit-low d h = rw (lt-ltb d 10 h)
 pub digit-high : (d : ℕ) → 10 ≤ d → 87 + d ≡ digitOf d
 unfolding digitOf
 digit-high d h = rw (le-ltb d 10 h)
-
-pub dec-one : (x : ℕ) → x < 10 → dec x ≡ (48 + x) ∷ []
-unfolding dec
-dec-one x h = rw (lt-ltb x 10 h)
-
-pub dec-two : (x : ℕ) → 10 ≤ x → dec x ≡ (48 + x / 10 % 10) ∷ (48 + x % 10) ∷ []
-unfolding dec
-dec-two x h = rw (le-ltb x 10 h)
-
--- ---- how long
-
-pub length-dec : (x : ℕ) → length (dec x) ≤ 2
-unfolding dec
-length-dec x = go (ltb x 10) refl
-  where
-    go : (b : Bool) → ltb x 10 ≡ b → length (dec x) ≤ 2
-    go true e = rw e (omega arith)
-    go false e = rw e (omega arith)

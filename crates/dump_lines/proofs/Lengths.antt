@@ -1,20 +1,22 @@
--- How long each line is, and each piece of it.
+-- How long each line is, and each piece of it. Crate `dump_lines`.
 -- Assumes nothing.
 use mathlib.Core.Path.{_≡_, ap, ap₂, _∙_}
 use mathlib.Core.List.{List, [], _∷_, _++_}
-use Prim.Native.Nat.{ℕ, suc, _+_, _-_, _≤_}
+use Prim.Native.Nat.{ℕ, suc, _+_, _-_, _≤_, _<_}
 use native.Mathlib.Omega.{arith}
 use lib.ListN.{length, length-append}
 use Rattle.gpi.specs.declared.Gpi.{Gpi}
 use Rattle.gpi.specs.declared.Gpi.the-variants.{NoAccess, SystemAgent, NonSecureProtected, NoAccess6, NoAccess7, Secure, NonSecure, Root, Realm, NonSecureOnly, Any}
 use Rattle.config.specs.declared.Widths.{Widths}
 use Rattle.resolve.specs.Refusals.{refusalNumber}
+use Rattle.resolve.proofs.Numbers.{refusal-number}
 use Rattle.gpt.specs.declared.Looked.{Looked}
 use Rattle.gpt.specs.declared.Looked.the-variants.{Ok, Refused}
 use Rattle.dump_lines.specs.Digits.{hex, dec}
-use Rattle.dump_lines.proofs.Bytes.{length-hex, length-dec}
+use Rattle.dump_lines.proofs.Bytes.{length-hex}
+use Rattle.dump_lines.proofs.Decimal.{length-dec}
 use Rattle.dump_lines.specs.declared.Run.{Run}
-use Rattle.dump_lines.specs.Lines.{ascii, gpiName, name, line, header, told}
+use Rattle.dump_lines.specs.Lines.{ascii, gpiName, name, space, address, line, header, told}
 
 length-gpi : (g : Gpi) → length (gpiName g) ≤ 18
 length-gpi NoAccess = omega arith
@@ -29,17 +31,24 @@ length-gpi Realm = omega arith
 length-gpi NonSecureOnly = omega arith
 length-gpi Any = omega arith
 
+-- a number below 100, as widths and refusals are
+pub short-dec : (n : ℕ) → n < 100 → length (dec n) ≤ 2
+short-dec n h = length-dec 1 n h
+
 -- the longest name
 pub length-name : (a : Looked) → length (name a) ≤ 18
 length-name (Ok g) = length-gpi g
-length-name (Refused r) = let h = length-dec (refusalNumber r) in omega arith
+length-name (Refused r) = let n = refusal-number r .1 in let h = short-dec (refusalNumber r) (omega arith) in omega arith
+
+pub length-address : (x : ℕ) → length (address x) ≡ 14
+unfolding address
+length-address x = length-append (hex 13 x) space ∙ ap (λ (k : ℕ). k + 1) (length-hex 13 x)
 
 pub length-line : (r : Run) → length (line r) ≡ 29 + length (name (r .answer))
 unfolding line
 length-line r =
-    length-append (hex 13 (r .start)) _ ∙ ap₂ (λ (a b : ℕ). a + suc b) (length-hex 13 (r .start))
-    (length-append (hex 13 (r .last)) _ ∙ ap₂ (λ (a b : ℕ). a + suc b) (length-hex 13 (r .last)) (length-append (name (r .answer)) (10 ∷ [])))
-    ∙ omega arith
+    let a = length-address (r .start) in let b = length-address (r .last) in
+    simp length-append (omega arith)
 
 pub length-header : (w : Widths) → length (header w) ≡ 18 + length (dec (w .pps)) + length (dec (w .pgs)) + length (dec (w .l0gptsz))
 unfolding header

@@ -1,2 +1,4 @@
 pub mod Bytes
+pub mod Decimal
 pub mod Lengths
+pub mod Cases

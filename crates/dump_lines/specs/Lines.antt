@@ -1,4 +1,4 @@
--- The bytes of the dump's lines: document 01, "Dump image and text".
+-- The bytes of the dump's lines: document 01, "Dump image and text". Crate `dump_lines`.
 -- Assumes nothing: these are definitions.
 use mathlib.Core.List.{List, [], _∷_, _++_}
 use Prim.Native.Nat.{ℕ, _+_}
@@ -44,9 +44,13 @@ feed = 10 ∷ []
 abbrev pub space : List ℕ
 space = 32 ∷ []
 
--- `0000040000000 000007fffffff Root`: thirteen digits of the first address and of the last, and what they answer
+-- thirteen digits of an address, and a space
+unfoldable pub address : ℕ → List ℕ
+address x = hex 13 x ++ space
+
+-- `0000040000000 000007fffffff Root`: the first address and the last, and what they answer
 unfoldable pub line : Run → List ℕ
-line r = hex 13 (r .start) ++ (space ++ (hex 13 (r .last) ++ (space ++ (name (r .answer) ++ feed))))
+line r = address (r .start) ++ (address (r .last) ++ (name (r .answer) ++ feed))
 
 -- `gpt pps=32 pgs=16 l0=30`: the address bits
 unfoldable pub header : Widths → List ℕ

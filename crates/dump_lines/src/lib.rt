@@ -1,11 +1,10 @@
-// Bytes and numbers put into a lent buffer from a place on: what the dump's lines are made of. Added by the port.
-// The dump's lines as bytes, each put into a lent buffer from a place on. Added by the port.
+// The dump's lines as bytes, and the numbers in them, each put into a lent buffer from a place on. Added by the port.
 ghost use mathlib.Core.Path.{_≡_};
-ghost use mathlib.Core.List.{_++_};
+ghost use mathlib.Core.List.{[], _∷_, _++_};
 ghost use Prim.Native.Nat.{_+_, _≤_, _<_, _^_};
 ghost use lib.ListN.{length, take, drop};
 ghost use Rattle.dump_lines.specs.Digits.{digitOf, hex, dec, Put};
-ghost use Rattle.dump_lines.specs.Lines.{gpiName, names, name, line, header, told};
+ghost use Rattle.dump_lines.specs.Lines.{gpiName, names, name, address, line, header, told};
 use config::Widths;
 use gpi::Gpi;
 use gpt::Looked;
@@ -17,6 +16,15 @@ fn digit(d: u64) -> u8
     ensures { λ r. ⌜ r ≡ digitOf d ⌝ }
 {
     if d < 10 { 48 + d as u8 } else { 87 + d as u8 }
+}
+
+// One byte.
+fn put_byte(out: &mut [u8], at: usize, b: u8) -> usize
+    requires { ⌜ at + 1 ≤ length (now out) ⌝ }
+    ensures { λ r. ⌜ Put (now (out .entry)) at (b ∷ []) (now (out .exit)) r ⌝ }
+{
+    out[at] = b;
+    at + 1
 }
 
 // Bytes, as they are.
@@ -49,28 +57,37 @@ pub fn put_hex(out: &mut [u8], at: usize, n: usize, x: u64) -> usize
 
 // How long a number is in decimal.
 pub fn dec_len(x: u64) -> usize
-    ensures { λ r. ⌜ (r ≡ length (dec x)) × (r ≤ 2) ⌝ }
+    ensures { λ r. ⌜ (r ≡ length (dec x)) × (r ≤ 20) ⌝ }
 {
-    if x < 10 { 1 } else { 2 }
+    let mut n: usize = 1;
+    let mut v = x;
+    while 9 < v {
+        v = v / 10;
+        n += 1;
+    }
+    n
 }
 
-// A number in decimal.
+// A number in decimal, from its last digit on.
 fn put_dec(out: &mut [u8], at: usize, x: u64) -> usize
     requires { ⌜ at + length (dec x) ≤ length (now out) ⌝ }
     ensures { λ r. ⌜ Put (now (out .entry)) at (dec x) (now (out .exit)) r ⌝ }
 {
-    if x < 10 {
-        out[at] = 48 + x as u8;
-        return at + 1;
+    let end = at + dec_len(x);
+    let mut i = end - 1;
+    let mut v = x;
+    while 9 < v {
+        out[i] = 48 + (v % 10) as u8;
+        i -= 1;
+        v = v / 10;
     }
-    out[at] = 48 + ((x / 10) % 10) as u8;
-    out[at + 1] = 48 + (x % 10) as u8;
-    at + 2
+    out[i] = 48 + v as u8;
+    end
 }
 
 // What is said, and a number.
 pub fn put_numbered(out: &mut [u8], at: usize, what: &[u8], n: u64) -> usize
-    requires { ⌜ at + length (now what) + length (dec n) ≤ length (now out) ⌝ }
+    requires { ⌜ at + length (now what ++ dec n) ≤ length (now out) ⌝ }
     ensures { λ r. ⌜ Put (now (out .entry)) at (now (what .entry) ++ dec n) (now (out .exit)) r ⌝ }
 {
     let b = put(out, at, what);
@@ -152,19 +169,25 @@ pub fn line_len(a: Looked) -> usize
     29 + name_len(a)
 }
 
+// An address, and a space behind it.
+fn put_address(out: &mut [u8], at: usize, x: u64) -> usize
+    requires { ⌜ at + length (address x) ≤ length (now out) ⌝ }
+    ensures { λ n. ⌜ Put (now (out .entry)) at (address x) (now (out .exit)) n ⌝ }
+{
+    let a = put_hex(out, at, 13, x);
+    put_byte(out, a, b' ')
+}
+
 // A run's line: its first and its last address, and what they answer.
 pub fn put_line(out: &mut [u8], at: usize, r: Run) -> usize
     requires { ⌜ at + length (line r) ≤ length (now out) ⌝ }
     ensures { λ n. ⌜ Put (now (out .entry)) at (line r) (now (out .exit)) n ⌝ }
 {
-    let a = put_hex(out, at, 13, r.start);
-    out[a] = b' ';
-    let b = put_hex(out, a + 1, 13, r.last);
-    out[b] = b' ';
+    let a = put_address(out, at, r.start);
+    let b = put_address(out, a, r.last);
     let answer = r.answer;
-    let d = put_name(out, b + 1, answer);
-    out[d] = b'\n';
-    d + 1
+    let d = put_name(out, b, answer);
+    put_byte(out, d, b'\n')
 }
 
 // How long the header's line is.
@@ -182,7 +205,7 @@ pub fn put_header(out: &mut [u8], at: usize, w: Widths) -> usize
     let a = put_numbered(out, at, b"gpt pps=", w.pps);
     let b = put_numbered(out, a, b" pgs=", w.pgs);
     let c = put_numbered(out, b, b" l0=", w.l0gptsz);
-    put(out, c, b"\n")
+    put_byte(out, c, b'\n')
 }
 
 // How long the line of what is said, and a number, is.
@@ -199,5 +222,5 @@ pub fn put_told(out: &mut [u8], at: usize, what: &[u8], n: u64) -> usize
     ensures { λ r. ⌜ Put (now (out .entry)) at (told (now (what .entry)) n) (now (out .exit)) r ⌝ }
 {
     let b = put_numbered(out, at, what, n);
-    put(out, b, b"\n")
+    put_byte(out, b, b'\n')
 }

@@ -8,23 +8,27 @@ use native.Mathlib.Decide.{decLt, ℕ-discrete}
 use native.Mathlib.Nat.{pos-of-ne-zero}
 use native.Mathlib.Omega.{arith}
 use borrow.Author.Tests.{eq-eqb, ne-eqb}
+use lib.Dec.{lit<}
 use lib.ListN.{length}
 use lib.Pow.{pow-mono}
 use Rattle.config.specs.declared.Config.{Config}
 use Rattle.config.specs.declared.Widths.{Widths}
 use Rattle.config.specs.declared.Configured.{Configured}
 use Rattle.config.specs.declared.Configured.the-variants.{Ok, InvalidConfiguration, GptNotInitialized}
-use Rattle.config.specs.Fields.{configuredOf}
+use Rattle.config.specs.Fields.{configuredOf, Listed}
 use Rattle.config.proofs.Bounds.{listed-widths}
+use Rattle.resolve.proofs.Numbers.{refusal-number}
 use Rattle.gpt.specs.declared.Looked.{Looked}
-use Rattle.gpt.specs.Lookup.{lookupOf}
+use Rattle.gpt.specs.declared.Looked.the-variants.{Ok as Told, Refused as Not}
+use Rattle.gpt.specs.Lookup.{lookedNumber, lookupOf}
+use Rattle.dump_image.specs.declared.Fault.{Fault}
+use Rattle.dump_image.specs.declared.Fault.the-variants.{Version, Short, Counts, Length}
 use Rattle.dump_image.specs.declared.Read.{Read}
 use Rattle.dump_image.specs.declared.Read.the-variants.{Bad, Whole}
 use Rattle.dump_image.specs.Image.{readOf, faultNumber, l0Words, arenaWords}
 use Rattle.dump_lines.specs.declared.Run.{Run}
 use Rattle.dump_lines.specs.Lines.{ascii, header, line, told}
-use Rattle.dump_lines.proofs.Bytes.{length-dec}
-use Rattle.dump_lines.proofs.Lengths.{length-name, length-line, length-header, length-told}
+use Rattle.dump_lines.proofs.Lengths.{short-dec, length-name, length-line, length-header, length-told}
 use Rattle.dump_runs.specs.Runs.{from, total, First}
 use Rattle.dump_runs.proofs.Walk.{some-run, none-left}
 use Rattle.dump_text.specs.declared.Opening.{Opening}
@@ -84,22 +88,22 @@ module _ (f : ℕ → Looked) (w : Widths) where
   pub header-here : (k : ℕ) → k ≡ 0 → openSteps f w k ≡ step (header w) 1 ∷ openSteps f w 1
   header-here k e = rw (eq-eqb k 0 e)
 
-  header-leads : (k : ℕ) → k ≡ 0 → Leads (openSteps f w) k (step (header w) 1)
-  header-leads k p =
-      record {
-        is = header-here k p;
-        up = omega arith;
-        short = let e = length-header w in let a = length-dec (w .pps) in let b = length-dec (w .pgs) in let d = length-dec (w .l0gptsz) in omega arith;
-      }
+  header-leads : Listed w → (k : ℕ) → k ≡ 0 → Leads (openSteps f w) k (step (header w) 1)
+  header-leads m k p =
+      let x = m .pps-most in let y = m .pgs-most in let z = m .l0-most in
+      let a = short-dec (w .pps) (omega arith) in
+      let b = short-dec (w .pgs) (omega arith) in
+      let d = short-dec (w .l0gptsz) (omega arith) in
+      record { is = header-here k p; up = omega arith; short = let e = length-header w in omega arith }
 
-  open-left : w .pps ≤ 52 → (k : ℕ) → Left (openSteps f w) k
+  open-left : Listed w → (k : ℕ) → Left (openSteps f w) k
   open-left m k = go (ℕ-discrete k 0) (decLt (total w) k)
     where
       t : total w ≤ 2 ^ 52
-      t = pow-mono m
+      t = pow-mono (m .pps-most)
 
       go : Dec (k ≡ 0) → Dec (total w < k) → Left (openSteps f w) k
-      go (yes p) d = next (step (header w) 1) (omega arith) (header-leads k p)
+      go (yes p) d = next (step (header w) 1) (omega arith) (header-leads m k p)
       go (no p) (yes q) = end (runs-end k q)
       go (no p) (no q) =
           let r = some-run f (total w) (k - 1) (omega (arith, pos-of-ne-zero p)) in
@@ -107,23 +111,31 @@ module _ (f : ℕ → Looked) (w : Widths) where
 
 -- ---- tables and images
 
-short-told : (s : List ℕ) (n : ℕ) → length s ≤ 10 → length (told s n) ≤ 47
-short-told s n h = let e = length-told s n in let d = length-dec n in omega arith
+short-told : (s : List ℕ) (n : ℕ) → n < 100 → length s ≤ 10 → length (told s n) ≤ 47
+short-told s n k h = let e = length-told s n in let d = short-dec n k in omega arith
+
+looked-small : (a : Looked) → lookedNumber a < 100
+looked-small (Told g) = lit< tt
+looked-small (Not r) = let h = refusal-number r .1 in omega arith
+
+fault-small : (f : Fault) → faultNumber f < 100
+fault-small f = elim f [ Version ↦ lit< tt | Short ↦ lit< tt | Counts ↦ lit< tt | Length ↦ lit< tt ]
 
 module _ (c : Config) (L A : List ℕ) (b : ℕ) (k : ℕ) where
   shut-left : Left (shownSteps c L A b Refused) k
-  shut-left = one-left (refusedLine (firstNumber c L A b)) (short-told (ascii "refused ") (firstNumber c L A b) (omega arith)) k
+  shut-left =
+      one-left (refusedLine (firstNumber c L A b)) (short-told (ascii "refused ") (firstNumber c L A b) (looked-small (lookupOf c L A b 0)) (omega arith)) k
 
   pub table-left : Left (tableSteps c L A b) k
   unfolding tableSteps
   table-left = go (configuredOf c) refl
     where
-      shown : (w : Widths) → w .pps ≤ 52 → (s : Bool) → Left (shownSteps c L A b (cond s Refused (Shown w))) k
+      shown : (w : Widths) → Listed w → (s : Bool) → Left (shownSteps c L A b (cond s Refused (Shown w))) k
       shown w m true = shut-left
       shown w m false = open-left (lookupOf c L A b) w m k
 
       go : (t : Configured) → configuredOf c ≡ t → Left (shownSteps c L A b (openingBy t (firstNumber c L A b))) k
-      go (Ok w) e = shown w (listed-widths c w e .pps-most) (shuts (firstNumber c L A b))
+      go (Ok w) e = shown w (listed-widths c w e) (shuts (firstNumber c L A b))
       go InvalidConfiguration e = shut-left
       go GptNotInitialized e = shut-left
 
@@ -132,7 +144,7 @@ unfolding dumpSteps
 dump-left s k = go (readOf s)
   where
     go : (r : Read) → Left (imageSteps s r) k
-    go (Bad f) = one-left (badLine (faultNumber f)) (short-told (ascii "bad image ") (faultNumber f) (omega arith)) k
+    go (Bad f) = one-left (badLine (faultNumber f)) (short-told (ascii "bad image ") (faultNumber f) (fault-small f) (omega arith)) k
     go (Whole f) = table-left (f .config) (l0Words s f) (arenaWords s f) (f .base .0) k
 
 -- ---- every text has a first line

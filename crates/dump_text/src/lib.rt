@@ -170,11 +170,12 @@ fn loaded_chunk(
     at: u64,
     out: &mut [u8],
 ) -> Chunk
-    requires { ⌜ (length (now l0) ≡ f .l0) × (length (now arena) ≡ f .arena) × (length (now s) ≡ 25 + 8 * (f .l0 + f .arena)) ⌝ }
+    requires { ⌜ (length (now l0) ≡ f .l0) × (length (now arena) ≡ f .arena) × (f .words + 8 * (f .l0 + f .arena) ≤ length (now s)) ⌝ }
     ensures { λ r. ⌜ Chunked (tableSteps (f .config) (l0Words (now (s .entry)) f) (arenaWords (now (s .entry)) f) (f .base .0)) at 0 (now (out .entry)) (now (out .exit)) r ⌝ }
 {
-    dump_image::copy_words(s, 25, l0);
-    dump_image::copy_words(s, 25 + 8 * l0.len(), arena);
+    let words = f.words;
+    dump_image::copy_words(s, words, l0);
+    dump_image::copy_words(s, words + 8 * l0.len(), arena);
     let c = f.config;
     let base = f.base;
     table_chunk(c, l0, arena, base, at, out)

@@ -1,14 +1,5 @@
 // The dump of many small images, each a file of data/ that images/make made of a text in images/. The buffer has room for one line or two, so
 // that each text comes in many chunks.
-ghost use mathlib.Core.Path.{_≡_};
-ghost use lib.ListN.{length};
-
-fn room() -> [u8; 33306]
-    ensures { λ r. ⌜ 33306 ≡ length r ⌝ }
-{
-    [0; 33306]
-}
-
 // An image's name on a line, and its dump.
 fn show(path: &[u8]) {
     let f = os::open_read(path);
@@ -16,15 +7,13 @@ fn show(path: &[u8]) {
         os::fail(path);
         return;
     }
-    let mut image = room();
-    let n = io::read_full(f, &mut image);
-    libc::close(f);
     io::write_all(1, path);
     io::write_all(1, b"\n");
     let mut out = [0u8; 99];
-    if !dump_stream::print(1, &image[..n], &mut out) {
+    if !dump_stream::show(f, 1, &mut out) {
         io::write_all(1, b"not whole\n");
     }
+    libc::close(f);
 }
 
 fn versions() {

@@ -16,8 +16,7 @@ use Rattle.resolve.specs.declared.Site.{Site}
 use Rattle.resolve.specs.Sited.{Sited}
 use Rattle.resolve.specs.Lent.{Lent, placed, tableIn, layIn}
 use Rattle.resolve.proofs.Found.{found}
-use Rattle.mend_table.specs.Ranges.{Regions}
-use Rattle.mend_table.specs.Mends.{Repaired}
+use Rattle.mend_table.specs.Mend.{Regions, Repaired}
 use Rattle.mend_table.specs.Normal.{isNormal}
 use Rattle.mend.specs.declared.Named.{Named}
 use Rattle.mend.specs.declared.Named.the-variants.{At, Refused as Unnamed}

@@ -44,7 +44,8 @@ use Rattle.gpt.specs.Set.{Made, setOf}
 use Rattle.mend.specs.declared.Mended.{Mended}
 use Rattle.mend.specs.declared.Checked.{Checked}
 use Rattle.mend.specs.Outcome.{Left, mendOf, checkOf}
-use Rattle.abi.specs.Packed.{configOf, lookedPacked, checkedPacked}
+use Rattle.config.specs.Flags.{configOf}
+use Rattle.abi.specs.Packed.{lookedPacked, checkedPacked}
 use Rattle.abi.specs.Left.{SetLeft, MendLeft}
 use Rattle.dump_image.specs.declared.Read.{Read}
 use Rattle.dump_image.specs.declared.Fault.{Fault}

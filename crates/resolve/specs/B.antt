@@ -1,16 +1,16 @@
 -- Document 01, "Cases": "Base arrangement B: PPS 0, L0GPTSZ 0, PGS 1, GPC on, all else off, arena base 0x80000000, 1,024 words of 0x3A1;
 -- L0 = 0x91, 0x80000003, 0x01, 0x0". Every case starts from it.
-use mathlib.Core.Bool.{Bool, true, false}
+use mathlib.Core.Bool.{Bool, true, cond}
 use mathlib.Core.List.{List, [], _∷_}
 use Prim.Native.Nat.{ℕ}
 use lib.ListN.{replicate}
 use Rattle.config.specs.declared.Config.{Config}
+use Rattle.config.specs.Flags.{configOf}
 use Rattle.resolve.specs.Lent.{Lent, lent, over}
 
 -- PPS, PGS, L0GPTSZ and GPC; every other flag is off
 abbrev pub fields : ℕ → ℕ → ℕ → Bool → Config
-fields p g l on =
-    record { pps = p; pgs = g; l0gptsz = l; gpc = on; sa = false; nsp = false; na6 = false; na7 = false; nso = false; gdi = false; gpc2 = false }
+fields p g l on = configOf p g l (cond on 1 0)
 
 abbrev pub fieldsB : Config
 fieldsB = fields 0 1 0 true

@@ -34,7 +34,10 @@ loop-again c = let l = c .before .before .before in
     (omega arith, number-more _ _ _ (l .loop .inv .1) (c .wide .ensures), grown _ (l .loop .inv .2) (byte c))
 
 returns : tie.Need-returns Inv-loop μ-loop
-returns c = let l = c .before in l .loop .inv .1 ∙ ap (bigEndian (l .before .before .args .s .now) (l .before .before .args .at)) (omega arith)
+returns c =
+    let l = c .before in
+    let e : l .loop .k ≡ l .before .before .args .n = omega arith in
+    (l .loop .inv .1 ∙ ap (bigEndian (l .before .before .args .s .now) (l .before .before .args .at)) e, rw (← e) (l .loop .inv .2))
 
 pub number-spec : {M : Type 1} → statement M
 number-spec =

@@ -1,17 +1,41 @@
--- `dump_lines::dec_len` meets its contract.
+-- `dump_lines::dec_len` meets its contract. The loop keeps that the digits left and those counted are all.
 -- Assumes nothing.
-use mathlib.Core.Path.{sym, ap}
+use mathlib.Core.Path.{_≡_, refl, ap}
+use Prim.Native.Nat.{_+_, _^_, _<_}
 use native.Mathlib.Omega.{arith}
 use lib.ListN.{length}
-use Rattle.dump_lines.proofs.Bytes.{dec-one, dec-two}
+use Rattle.dump_lines.specs.Digits.{dec}
+use Rattle.dump_lines.proofs.Decimal.{dec-one, length-more, length-some, length-dec}
 use Rattle.dump_lines.proofs.dec_len.Statement.{statement}
 use Rattle.dump_lines.proofs.dec_len.Tie as tie
 
-returns : tie.Need-returns
-returns c = (sym (ap length (dec-one _ (c .if1 .taken))), omega arith)
+abbrev Inv-loop : tie.InvT-loop
+Inv-loop x n₀ v₀ n v = n + length (dec v) ≡ length (dec x) + 1
 
-returns-2 : tie.Need-returns-2
-returns-2 c = (sym (ap length (dec-two _ (c .if1 .left))), omega arith)
+abbrev μ-loop : tie.MeasureT-loop
+μ-loop x n₀ v₀ n v = v
+
+loop-holds : tie.Need-loop-holds Inv-loop μ-loop
+loop-holds c = omega arith
+
+add-n : tie.Need-add-n Inv-loop μ-loop
+add-n c =
+    let a = c .before .before .args in
+    let s = length-some (c .before .loop .v) in
+    let l = length-dec 19 (a .x) (omega arith) in
+    omega arith
+
+loop-less : tie.Need-loop-less Inv-loop μ-loop
+loop-less c = omega arith
+
+loop-again : tie.Need-loop-again Inv-loop μ-loop
+loop-again c = let m = length-more (c .before .loop .v) (omega arith) in omega arith
+
+returns : tie.Need-returns Inv-loop μ-loop
+returns c =
+    let l = length-dec 19 (c .before .before .args .x) (omega arith) in
+    let o = ap length (dec-one (c .before .loop .v) (omega arith)) in
+    (omega arith, omega arith)
 
 pub dec-len-spec : {M : Type 1} → statement M
-dec-len-spec = tie.close (tie.spec returns returns-2)
+dec-len-spec = tie.close (tie.spec Inv-loop μ-loop loop-holds add-n loop-less loop-again returns)

@@ -1,94 +1,64 @@
--- `dump_lines::put_line` meets its contract.
+-- `dump_lines::put_line` meets its contract: where the line has room, each piece finds it where the one before ends.
 -- Assumes nothing.
-use mathlib.Core.Path.{_≡_, _∙_}
-use native.Mathlib.Omega.{arith}
-use Prim.Native.Nat.{_≤_, _<_, _+_}
-use lib.ListN.{length, length-set}
-use Rattle.dump_lines.specs.Lines.{name, line}
-use Rattle.dump_lines.proofs.Bytes.{length-hex, then-put, one-put, put-length}
-use Rattle.dump_lines.proofs.Lengths.{length-line}
+use mathlib.Core.List.{List, _++_}
+use Prim.Native.Nat.{ℕ, _+_, _≤_}
+use lib.ListN.{length}
+use Rattle.dump_lines.specs.declared.Run.{Run}
+use Rattle.dump_lines.specs.Lines.{name, feed, address, line}
+use Rattle.dump_lines.proofs.Bytes.{then-put, room-first, room-next}
+use borrow.Author.Needs.{needs}
 use Rattle.dump_lines.proofs.put_line.Statement.{statement}
 use Rattle.dump_lines.proofs.put_line.Tie as tie
 
--- the buffer keeps its length, and the line fits: after the first number, after the second, and after the name
-room₁ : (c : tie.After-put-hex) → c .put-hex .result + 16 + length (name (c .before .before .before .args .r .answer)) ≤ length (c .put-hex .last .0)
-room₁ c =
-    let s = c .before .before .before in
-    let e = length-line (s .args .r) in
-    let k = put-length (c .put-hex .ensures) in
-    let a = simp length-hex at (c .put-hex .ensures .place) in
-    omega (arith, s .pre)
+-- what follows the last address, and the first
+abbrev named : Run → List ℕ
+named r = name (r .answer) ++ feed
 
-same₂ : (c : tie.After-put-hex2) → length (c .put-hex2 .last .0) ≡ length (c .before .before .before .before .before .before .before .args .out .now)
-same₂ c = (simp length-set at (put-length (c .put-hex2 .ensures))) ∙ put-length (c .before .before .before .before .put-hex .ensures)
+abbrev ended : Run → List ℕ
+ended r = address (r .last) ++ named r
 
-room₂ : (c : tie.After-put-hex2) → c .put-hex2 .result + 2 + length (name (c .before .before .before .before .before .before .before .args .r .answer)) ≤ length (c .put-hex2 .last .0)
-room₂ c =
-    let h = c .before .before .before .before in
-    let r = room₁ h in
-    let k = put-length (h .put-hex .ensures) in
-    let l = same₂ c in
-    let a = simp length-hex at (c .put-hex2 .ensures .place) in
-    omega arith
+room : (c : tie.After-put-address2)
+    → let s = c .before .before .before .before .before .before .before in
+    c .put-address2 .result + length (named (s .args .r)) ≤ length (c .put-address2 .last .0)
+unfolding line
+room c =
+    let p = c .before .before .before .before in
+    let s = p .before .before .before in
+    let r = s .args .r in
+    room-next (address (r .last)) (named r) (c .put-address2 .ensures)
+    (room-next (address (r .start)) (ended r) (p .put-address .ensures) (s .pre))
 
-same₃ : (c : tie.After-put-name) → length (c .put-name .last .0) ≡ length (c .before .before .before .before .before .before .before .before .before .before .before .args .out .now)
-same₃ c = (simp length-set at (put-length (c .put-name .ensures))) ∙ same₂ (c .before .before .before .before)
+put-address-requires : tie.Need-put-address-requires
+unfolding line
+put-address-requires c κs = let s = c .before .before in let r = s .args .r in room-first (address (r .start)) (ended r) _ _ (s .pre)
 
-room₃ : (c : tie.After-put-name) → c .put-name .result < length (c .put-name .last .0)
-room₃ c =
-    let h = c .before .before .before .before in
-    let r = room₂ h in
-    let k = same₂ h in
-    let l = same₃ c in
-    let a = c .put-name .ensures .place in
-    omega arith
-
-put-hex-requires : tie.Need-put-hex-requires
-put-hex-requires c κs = let e = length-line (c .before .before .args .r) in let h = c .before .before .pre in (omega arith, omega arith)
-
-slice-write-out : tie.Need-slice-write-out
-slice-write-out c = let h = room₁ (c .before .before) in omega arith
-
-add-put-hex : tie.Need-add-put-hex
-add-put-hex c = let h = room₁ (c .before .before .before) in let k = put-length (c .before .before .before .put-hex .ensures) in let s = c .before .before .before .before .before .before in let f = s .fits in let g = s .good in omega arith
-
-put-hex-requires-2 : tie.Need-put-hex-requires-2
-put-hex-requires-2 c κs = let h = room₁ (c .before .before .before) in simp length-set (omega arith, omega arith)
-
-slice-write-out-2 : tie.Need-slice-write-out-2
-slice-write-out-2 c = let h = room₂ (c .before .before) in omega arith
-
-add-put-name : tie.Need-add-put-name
-add-put-name c = let h = room₂ (c .before .before .before) in let k = same₂ (c .before .before .before) in let s = c .before .before .before .before .before .before .before .before .before .before in let f = s .fits in let g = s .good in omega arith
+put-address-requires-2 : tie.Need-put-address-requires-2
+unfolding line
+put-address-requires-2 c κs =
+    let p = c .before .before .before in
+    let s = p .before .before .before in
+    let r = s .args .r in
+    room-first (address (r .last)) (named r) _ _ (room-next (address (r .start)) (ended r) (p .put-address .ensures) (s .pre))
 
 put-name-requires : tie.Need-put-name-requires
-put-name-requires c κs = let h = room₂ (c .before .before .before) in simp length-set (omega arith)
+put-name-requires c κs =
+    let p = c .before .before .before in
+    room-first (name (p .before .before .before .before .before .before .before .args .r .answer)) feed _ _ (room p)
 
-slice-write-out-3 : tie.Need-slice-write-out-3
-slice-write-out-3 c = let h = room₃ (c .before .before) in omega arith
-
-add-result : tie.Need-add-result
-add-result c = let h = room₃ (c .before .before) in let k = same₃ (c .before .before) in let s = c .before .before .before .before .before .before .before .before .before .before .before .before .before in let f = s .fits in let g = s .good in omega arith
-
-same-length : tie.Need-same-length
-same-length c = simp length-set (same₃ (c .before .before))
+put-byte-requires : tie.Need-put-byte-requires
+put-byte-requires c κs =
+    let q = c .before .before .before in
+    let p = q .before .before .before .before in
+    room-next (name (p .before .before .before .before .before .before .before .args .r .answer)) feed (q .put-name .ensures) (room p)
 
 returns : tie.Need-returns
 unfolding line
-returns c = then-put (c .before .before .before .before .before .before .before .before .before .before .put-hex .ensures) (then-put (one-put _ _ 32) (then-put (c .before .before .before .before .before .before .put-hex2 .ensures) (then-put (one-put _ _ 32) (then-put (c .before .before .put-name .ensures) (one-put _ _ 10)))))
+returns c =
+    let q = c .before .before .before .before .before .before in
+    let p = q .before .before .before .before in
+    then-put (p .before .before .before .before .put-address .ensures)
+    (then-put (p .put-address2 .ensures) (then-put (q .put-name .ensures) (c .before .before .put-byte .ensures)))
 
 pub put-line-spec : {M : Type 1} → statement M
 put-line-spec =
-    tie.close
-    (tie.spec
-    put-hex-requires
-    slice-write-out
-    add-put-hex
-    put-hex-requires-2
-    slice-write-out-2
-    add-put-name
-    put-name-requires
-    slice-write-out-3
-    add-result
-    same-length
-    returns)
+    tie.close (tie.spec put-address-requires put-address-requires-2 put-name-requires put-byte-requires (λ c. search needs) returns)

@@ -6,7 +6,7 @@ use Prim.Native.Nat.{ℕ}
 use lib.ListN.{length, take}
 use lib.Seq.{length-take-le}
 use Rattle.dump_lines.specs.Lines.{ascii, told}
-use Rattle.dump_image.proofs.Refusals.{Fits, whole-fits}
+use Rattle.dump_image.proofs.Fits.{Fits, ends, whole-fits}
 use Rattle.dump_text.specs.Chunks.{oneStep, imageSteps, dumpSteps}
 use Rattle.dump_text.proofs.Walk.{same-steps}
 use borrow.Author.Needs.{needs}
@@ -36,7 +36,11 @@ slice-aggregate-loaded-chunk-2 : tie.Need-slice-aggregate-loaded-chunk-2
 slice-aggregate-loaded-chunk-2 c = long-b (c .before .before .before)
 
 loaded-chunk-requires : tie.Need-loaded-chunk-requires
-loaded-chunk-requires c κs = let f = fits (c .before .before .before .before) in (sym (long-a (c .before .before .before .before)), sym (long-b (c .before .before .before .before)), f .long)
+loaded-chunk-requires c κs =
+    let p = c .before .before .before .before in
+    let i = fits p .inside in
+    let e = ends _ _ (fits p) in
+    (sym (long-a p), sym (long-b p), omega arith)
 
 returns : tie.Need-returns
 unfolding dumpSteps

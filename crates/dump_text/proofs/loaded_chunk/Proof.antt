@@ -19,7 +19,7 @@ returns c =
     let k = c .before .before .before .before .before .before .before .before .before .before .before .before .before .before .copy-words in
     let m = c .before .before .before .before .before .before .before .before .before .before .copy-words2 in
     same-steps (ap₂ (λ (L A : List ℕ). tableSteps (a .f .config) L A (a .f .base .0))
-    (k .ensures ∙ ap (wordsFrom s 25) (h .0))
+    (k .ensures ∙ ap (wordsFrom s (a .f .words)) (h .0))
     (m .ensures ∙ ap₂ (wordsFrom s) (let z = k .kept .0 in let e = h .0 in omega arith) (h .1)))
     (c .before .before .table-chunk .ensures)
 

@@ -1,8 +1,8 @@
--- `dump_image::config_of` meets its contract.
+-- `config::from_flags` meets its contract: each field is the lent one, each flag its bit.
 -- Assumes nothing.
 use borrow.Author.Needs.{needs}
-use Rattle.dump_image.proofs.config_of.Statement.{statement}
-use Rattle.dump_image.proofs.config_of.Tie as tie
+use Rattle.config.proofs.from_flags.Statement.{statement}
+use Rattle.config.proofs.from_flags.Tie as tie
 
 returns : tie.Need-returns
 returns c =
@@ -21,8 +21,8 @@ returns c =
       gpc2 = c .flag8 .ensures i;
     }
 
-pub config-of-spec : {M : Type 1} → statement M
-config-of-spec =
+pub from-flags-spec : {M : Type 1} → statement M
+from-flags-spec =
     tie.close
     (tie.spec
     (λ c κs. search needs)
