@@ -4,7 +4,7 @@ use mathlib.Core.Path.{_≡_}
 use mathlib.Core.Bool.{cond}
 use mathlib.Core.List.{List}
 use Prim.Native.Nat.{ℕ}
-use lib.ListN.{length, getD}
+use lib.ListN.{getD}
 use Rattle.l0.specs.declared.L0Entry.{L0Entry}
 use Rattle.l0.specs.L0.{l0Of}
 use Rattle.config.specs.declared.Widths.{Widths}
@@ -22,13 +22,9 @@ use Rattle.resolve.specs.Place.{siteOf, entered, placeOf}
 use Rattle.resolve.specs.Sited.{Passed}
 
 -- of a call that is lent the L0 words l: it passed the tests with these widths, or it is refused
-abbrev pub Tells : Ask → List ℕ → Admitted → Type 0
-Tells q l (Admits w) = (configuredOf (q .config) ≡ Ok w) × Passed q l w
-Tells q l (Refuses r) = Refused r ≡ placeOf q l
-
--- the tests ask only how many words these are
-abbrev pub Told : Ask → ℕ → Admitted → Type 0
-Told q n r = (l : List ℕ) → length l ≡ n → Tells q l r
+abbrev pub Told : Ask → List ℕ → Admitted → Type 0
+Told q l (Admits w) = (configuredOf (q .config) ≡ Ok w) × Passed q l w
+Told q l (Refuses r) = Refused r ≡ placeOf q l
 
 -- what the L0 word of the address says
 abbrev pub wordOf : Ask → List ℕ → Widths → L0Entry

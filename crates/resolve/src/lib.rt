@@ -156,17 +156,17 @@ enum Admitted {
     Refused(Refusal),
 }
 
-// The refusals 1 to 6 in their order; n are the lent L0 words. The tests are asked first and judged then: one that is called behind several
-// others counts as rare, and the compiler would leave its call standing in a lookup.
-fn admit(d: Configured, n: usize, q: Ask) -> Admitted
+// The refusals 1 to 6 in their order. The tests are asked first and judged then: one that is called behind several others counts as rare, and
+// the compiler would leave its call standing in a lookup.
+fn admit(d: Configured, l0: &[u64], q: Ask) -> Admitted
     requires { ⌜ d ≡ configuredOf (q .config) ⌝ }
-    ensures { λ r. ⌜ Told q n r ⌝ }
+    ensures { λ r. ⌜ Told q (now (l0 .entry)) r ⌝ }
 {
     match d {
         Configured::Ok(w) => {
             let address = q.address;
             let call = q.call;
-            let few = (n as u64) < config::l0_entries(w);
+            let few = (l0.len() as u64) < config::l0_entries(w);
             let bad = arena_bad(q.base, q.words);
             let short = log_short(call);
             let high = config::pow2(w.pps) <= address.0;
@@ -225,7 +225,7 @@ fn enter(e: L0Entry, q: Ask, w: Widths) -> Place
 pub fn resolve(l0: &[u64], q: Ask) -> Place
     ensures { λ r. ⌜ r ≡ placeOf q (now (l0 .entry)) ⌝ }
 {
-    match admit(config::configure(q.config), l0.len(), q) {
+    match admit(config::configure(q.config), l0, q) {
         Admitted::Ok(w) => enter(l0_word(l0, q, w), q, w),
         Admitted::Refused(r) => Place::Refused(r),
     }
@@ -243,7 +243,7 @@ pub fn find(l0: &[u64], c: Config, words: usize, base: PA, address: PA) -> Place
         address,
         call: Call::Plain,
     };
-    match admit(config::configure(c), l0.len(), q) {
+    match admit(config::configure(c), l0, q) {
         Admitted::Ok(w) => enter(l0_word(l0, q, w), q, w),
         Admitted::Refused(r) => Place::Refused(r),
     }

@@ -16,16 +16,10 @@ use Rattle.resolve.proofs.enter.Tie as tie
 abbrev to-a : tie.After-is-outside → tie.After-e2
 to-a c = c .before .before .before
 
--- the test of 8, as the definition asks it
-is-outside : (c : tie.After-is-outside) → let k = to-a c in let a = k .before .before .args in
-    c .is-outside .result ≡ outside (a .q .base .0) (a .q .words) (k .e2 .given .0 .0 .0) (l1Words (a .w))
-is-outside c =
-    let a = to-a c .before .before .args in
-    c .is-outside .ensures ∙ ap (outside (a .q .base .0) (a .q .words) _) (c .before .l1-words .ensures)
-
+-- the test of 8 is the definition's, and not met
 inner : (c : tie.Else1) → let k = to-a (c .before) in let a = k .before .before .args in
     outside (a .q .base .0) (a .q .words) (k .e2 .given .0 .0 .0) (l1Words (a .w)) ≡ false
-inner c = sym (is-outside (c .before)) ∙ c .if1 .left
+inner c = rw (c .before .before .l1-words .ensures) at (sym (c .before .is-outside .ensures) ∙ c .if1 .left)
 
 is-outside-requires : tie.Need-is-outside-requires
 is-outside-requires c κs =
@@ -34,7 +28,9 @@ is-outside-requires c κs =
     (p .1 .0, (table-address _ _ (p .0 .1 ∙ k .e2 .given .1) .1, rw (c .l1-words .ensures) (l1-most _ (p .1 .1))))
 
 returns : tie.Need-returns
-returns c = not-inside _ _ _ _ (to-a (c .before) .e2 .given .1) (sym (is-outside (c .before)) ∙ c .if1 .taken)
+returns c =
+    let k = c .before in
+    not-inside _ _ _ _ (to-a k .e2 .given .1) (rw (k .before .l1-words .ensures) at (sym (k .is-outside .ensures) ∙ c .if1 .taken))
 
 site-at-requires : tie.Need-site-at-requires
 site-at-requires c κs = (to-a (c .before) .before .before .pre .1 .1, inside _ _ _ _ (inner c) .0)

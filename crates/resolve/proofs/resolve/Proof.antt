@@ -1,16 +1,16 @@
 -- `resolve::resolve` meets its contract: what `admit` told, then the L0 word.
 -- Assumes nothing.
-use mathlib.Core.Path.{refl, subst, sym, ap, _∙_}
+use mathlib.Core.Path.{subst, sym, ap, _∙_}
 use borrow.Author.Needs.{needs}
 use Rattle.resolve.specs.declared.Admitted.the-variants.{Ok as Admits}
-use Rattle.resolve.specs.Inner.{Told, Tells, onward}
+use Rattle.resolve.specs.Inner.{Told, onward}
 use Rattle.resolve.proofs.Chain.{through}
 use Rattle.resolve.proofs.resolve.Statement.{statement}
 use Rattle.resolve.proofs.resolve.Tie as tie
 
 let-through : (c : tie.After-w) → let a = c .before .before .before .before .before .args in
-    Tells (a .q) (a .l0 .now) (Admits (c .w .given .0 .0))
-let-through c = subst (Told _ _) (c .w .given .1) (c .before .before .admit .ensures) _ refl
+    Told (a .q) (a .l0 .now) (Admits (c .w .given .0 .0))
+let-through c = subst (Told _ _) (c .w .given .1) (c .before .before .admit .ensures)
 
 l0-word-requires : tie.Need-l0-word-requires
 l0-word-requires c κs = let-through (c .before) .1
@@ -24,7 +24,7 @@ returns c =
     c .enter .ensures ∙ ap (onward _ _) (c .before .l0-word .ensures) ∙ sym (through _ _ _ (t .0) (t .1))
 
 returns-2 : tie.Need-returns-2
-returns-2 c = subst (Told _ _) (c .before .r .given .1) (c .before .before .before .admit .ensures) _ refl
+returns-2 c = subst (Told _ _) (c .before .r .given .1) (c .before .before .before .admit .ensures)
 
 pub resolve-spec : {M : Type 1} → statement M
 resolve-spec =
