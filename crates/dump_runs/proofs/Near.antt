@@ -18,7 +18,7 @@ use Rattle.resolve.specs.Refusals.{outside}
 use Rattle.resolve.specs.declared.Call.the-variants.{Plain}
 use Rattle.resolve.specs.Place.{siteOf, entered, placeOf}
 use Rattle.resolve.specs.Lent.{Lent, askOf, placeFor}
-use Rattle.resolve.specs.Sited.{Passed}
+use Rattle.resolve.specs.Inner.{onward}
 use Rattle.resolve.proofs.Chain.{through}
 use Rattle.gpt.specs.Lookup.{lookedAt, lookupOf}
 use Rattle.dump_runs.specs.declared.Piece.{Piece}
@@ -43,13 +43,12 @@ module _ (Q : Lent) (w : Widths) (o : Open Q w) where
   word x = l0Of (getD (Q .l0) (l0Index w x) 0)
 
   abbrev entry : ℕ → L0Entry → Place
-  entry x e = entered e (λ t. cond (outside (Q .base) (length (Q .arena)) t (l1Words w)) (Nowhere OutsideArena) (Table (siteOf (askOf Q Plain x) w t)))
+  entry x e = onward (askOf Q Plain x) w e
 
   placed-by : (x : ℕ) → x < total w → placeFor Q Plain x ≡ entry x (word x)
-  unfolding placeOf
   placed-by x h =
-      let p : Passed (askOf Q Plain x) (Q .l0) w = record { listed = listed; enough = o .enough; arena = o .arena; long = refl; below = h; gpi = refl } in
-      rw (o .configured) (through (askOf Q Plain x) (Q .l0) w p)
+      through (askOf Q Plain x) (Q .l0) w (o .configured)
+      (record { listed = listed; enough = o .enough; arena = o .arena; long = refl; below = h; gpi = refl })
 
   module _ (a x : ℕ) (h : a < total w) (l : x < total w) where
     -- one granule
