@@ -1,6 +1,6 @@
 -- Several tables in one arena, and what is done to one of them: a set, a set cut after any number of stores, a mend of any limit. Beside
--- the arena stand the marks, which tables are known to be whole, and the ideal, what each granule ought to read. The crate `history` says the
--- same of the real calls and proves it by these; nothing else speaks of them. Of the crate `theory`.
+-- the arena stand the marks, which tables are known to be whole, and the ideal, what each granule ought to read. The crate `history` says
+-- the same of the real calls and proves it by these; nothing else speaks of them. Of the crate `theory`.
 -- Assumes nothing.
 use mathlib.Core.Path.{_≡_}
 use mathlib.Core.Logic.{_≢_, _⊎_}
