@@ -52,14 +52,18 @@ module _ (F : Format) (u : ℕ) (q : Target) where
   abbrev scans : List ℕ → Fused
   scans t = climb F u (at t) (q .gpi) (q .word) 0 Nowhere 3
 
-  pub grant : {o : ℕ} {t t₁ t₂ l l₁ l₂ l₃ : List ℕ} {a b d e : Tally} (w : ℕ) (m : Fused) {r : Answer} → w ≡ stored F t q
+  pub grant : {o : ℕ} {t t₁ t₂ l l₁ l₂ l₃ : List ℕ} {a b d : Tally} (w : ℕ) (m : Fused) {r : Answer} → w ≡ stored F t q
       → Done o (granule (q .word) (q .granule) w ∷ []) t t₁ l l₁ a b → Done o (barriers (q .address) (q .bytes)) t₁ t₁ l₁ l₂ b d
-      → m ≡ scans t₁ → Done o (fused F u (q .gpi) (q .word) m) t₁ t₂ l₂ l₃ d e → r ≡ answerOf m e
+      → m ≡ scans t₁ → Made o (fused F u (q .gpi) (q .word) m) (answerOf m) t₁ t₂ l₂ l₃ d r
       → Made o (grantEvents F u t q) (answerOf (scanned F u t q)) t t₂ l l₃ a r
   unfolding stores apply
-  grant {o} {t} {t₁} {t₂} {l} {l₁} {l₂} {l₃} {a} {b} {d} {e} w m {r} is x y f z n =
+  grant {t = t} w m is x y f z =
       let c : m ≡ scanned F u t q = f ∙ ap scans (x .table ∙ ap (set t (q .word)) is) in
-      record { tally = e; done = rw (← c, ← is) (after (after x y) z); answer = n ∙ ap (λ (v : Fused). answerOf v e) c }
+      record {
+        tally = z .tally;
+        done = rw (← c, ← is) (after (after x y) (z .done));
+        answer = z .answer ∙ ap (λ (v : Fused). answerOf v (z .tally)) c;
+      }
 
 -- ---- before the granule store
 

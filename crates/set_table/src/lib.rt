@@ -36,6 +36,14 @@ pub struct SetAt {
     pub bytes: u64,
 }
 
+// What a set of a table answers: done, stopped by an invalid word that the fuse scan met, or nothing changed, since the word at the index
+// is invalid.
+pub enum Answer {
+    Done(Tally),
+    Stopped(Tally),
+    Invalid,
+}
+
 // How a range around an index is cut at the part that holds it: the fill before, and the fill after.
 struct Cut {
     low: usize,
@@ -175,39 +183,24 @@ fn size_at(level: usize) -> Size
 }
 
 // The range that matched, filled with its contiguous word.
-pub fn fuse(table: &mut [u64], log: &mut [u64], t: Tally, q: SetAt, m: Fused) -> Tally
+pub fn fuse(table: &mut [u64], log: &mut [u64], t: Tally, q: SetAt, m: Fused) -> Answer
     requires { ⌜ Placed (now table) (q .index) (q .unit) ⌝ }
     requires { ⌜ ((l : ℕ) → m ≡ Level l → l < 3) ⌝ }
     requires { ⌜ Room (now table) (now log) (q .offset) t 1 (spanOf (q .unit) 2) ⌝ }
-    ensures { λ r. ⌜ Done (q .offset) (fused arm (q .unit) (num (q .gpi)) (q .index) m)
+    ensures { λ r. ⌜ Made (q .offset) (fused arm (q .unit) (num (q .gpi)) (q .index) m) (answerOf m)
         (now (table .entry)) (now (table .exit)) (now (log .entry)) (now (log .exit)) t r ⌝ }
 {
     match m {
-        Fused::Nowhere => t,
+        Fused::Nowhere => Answer::Done(t),
         Fused::Level(level) => {
             let index = q.index;
             let g = q.gpi;
             let size = size_at(level);
             let words = l1::span(q.unit, size);
             let word = l1::contig(size, g);
-            stores::fill_descs(table, log, t, q.offset, index / words * words, words, word)
+            let c = stores::fill_descs(table, log, t, q.offset, index / words * words, words, word);
+            Answer::Done(c)
         }
-        Fused::Refused(_) => t,
-    }
-}
-
-pub enum Answer {
-    Done(Tally),
-    Stopped(Tally),
-    Invalid,
-}
-
-fn answer_of(m: Fused, t: Tally) -> Answer
-    ensures { λ r. ⌜ r ≡ answerOf m t ⌝ }
-{
-    match m {
-        Fused::Nowhere => Answer::Done(t),
-        Fused::Level(_) => Answer::Done(t),
         Fused::Refused(_) => Answer::Stopped(t),
     }
 }
@@ -228,8 +221,7 @@ fn set_granule(table: &mut [u64], log: &mut [u64], t: Tally, q: SetAt) -> Answer
     let a = stores::store_granule(table, log, t, q.offset, i, q.granule, w);
     let b = stores::barriers(log, a, address, q.bytes);
     let m = fuse_descriptors(&table[..], i, q.unit, g);
-    let c = fuse(table, log, b, q, m);
-    answer_of(m, c)
+    fuse(table, log, b, q, m)
 }
 
 // A set of one table.

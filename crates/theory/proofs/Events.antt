@@ -2,10 +2,12 @@
 -- their stores. Of the crate `theory`.
 -- Assumes nothing.
 use mathlib.Core.Path.{_≡_, refl, sym, ap, ap₂, _∙_}
+use mathlib.Core.Bool.{false}
 use mathlib.Core.List.{List, [], _∷_, _++_, append-assoc, map-append}
 use Prim.Native.Nat.{ℕ, zero, suc, _+_, _*_, _≤_}
 use native.Mathlib.Nat.{add-zero, add-suc, suc-add, zero-add}
 use native.Mathlib.Omega.{arith}
+use lib.Dec.{eqb}
 use lib.ListN.{length, set, drop, length-append}
 use lib.Seq.{sets, sets-eq, length-sets}
 use Rattle.theory.specs.Stores.{Store, fill, moved, shifted}
@@ -86,11 +88,15 @@ unfolding fill
 shifted-fill o a zero w = refl
 shifted-fill o a (suc n) w = ap (λ (r : List Store). record { index = o + a; word = w } ∷ r) (shifted-fill o (suc a) n w ∙ rw add-suc refl)
 
--- a barrier's number is neither 1 nor 5: its record tells no store
-barrier-tells : (k : Kind) (x y : ℕ) → told (kindNumber k) x y 0 ≡ []
-barrier-tells dsb-oshst x y = refl
-barrier-tells tlbi x y = refl
-barrier-tells dsb-osh x y = refl
+-- a barrier's number is neither that of a fill nor that of a granule store
+pub barrier-number : (k : Kind) → (eqb (kindNumber k) 1 ≡ false) × (eqb (kindNumber k) 5 ≡ false)
+barrier-number dsb-oshst = (refl, refl)
+barrier-number tlbi = (refl, refl)
+barrier-number dsb-osh = (refl, refl)
+
+-- so its record tells no store
+pub barrier-tells : (k : Kind) (x y z : ℕ) → told (kindNumber k) x y z ≡ []
+barrier-tells k x y z = rw (barrier-number k .0, barrier-number k .1, told) refl
 
 records-tell : (o : ℕ) (es : List Event) (rest : List ℕ) → readLog (length es) (records o es ++ rest) ≡ shifted o (stores es)
 unfolding readLog records stores
@@ -98,7 +104,7 @@ records-tell o [] rest = refl
 records-tell o (filled a n w ∷ es) rest =
     ap₂ _++_ (sym (shifted-fill o a n w)) (records-tell o es rest) ∙ sym (map-append (moved o) (fill a n w) (stores es))
 records-tell o (granule i j w ∷ es) rest = ap (λ (r : List Store). record { index = o + i; word = w } ∷ r) (records-tell o es rest)
-records-tell o (barrier k x y ∷ es) rest = ap₂ _++_ (barrier-tells k x y) (records-tell o es rest)
+records-tell o (barrier k x y ∷ es) rest = ap₂ _++_ (barrier-tells k x y 0) (records-tell o es rest)
 
 -- a log that holds the records tells the stores, as stores of the arena
 pub logged-tells : (o : ℕ) (es : List Event) (log : List ℕ) → 4 * length es ≤ length log

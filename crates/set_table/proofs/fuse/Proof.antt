@@ -1,5 +1,6 @@
 -- `set_table::fuse` meets its contract: a fill of the range that matched, or nothing.
 -- Assumes nothing.
+use mathlib.Core.Path.{refl}
 use native.Mathlib.Omega.{arith}
 use borrow.Author.Needs.{needs}
 use Rattle.theory.specs.Set.{fused}
@@ -37,13 +38,7 @@ fill-descs-requires c κs =
 
 returns : tie.Need-returns
 unfolding fused
-returns c = rw (c .enum-told .given .1) (none _ _ _ _)
-
-same-length : tie.Need-same-length
-same-length c = c .before .before .before .before .fill-descs .kept .0
-
-same-length-2 : tie.Need-same-length-2
-same-length-2 c = c .before .before .before .before .fill-descs .kept .1 .0
+returns c = rw (c .enum-told .given .1) record { tally = c .before .before .before .before .args .t; done = none _ _ _ _; answer = refl }
 
 returns-2 : tie.Need-returns-2
 returns-2 c =
@@ -52,12 +47,16 @@ returns-2 c =
     let n = w .before in
     let z = n .before in
     rw (z .before .before .m .given .1)
-    (fuse-done _ _ _ (z .size-at .result) (z .size-at .ensures) (start n .args .q .gpi) _ (n .span .ensures) (w .contig .ensures)
-    (f .fill-descs .ensures))
+    record {
+      tally = f .fill-descs .result;
+      done = fuse-done _ _ _ (z .size-at .result) (z .size-at .ensures) (start n .args .q .gpi) _ (n .span .ensures) (w .contig .ensures)
+          (f .fill-descs .ensures);
+      answer = refl;
+    }
 
 returns-3 : tie.Need-returns-3
 unfolding fused
-returns-3 c = rw (c .enum-told2 .given .1) (none _ _ _ _)
+returns-3 c = rw (c .enum-told2 .given .1) record { tally = c .before .before .before .before .args .t; done = none _ _ _ _; answer = refl }
 
 pub fuse-spec : {M : Type 1} → statement M
 fuse-spec =
@@ -73,7 +72,7 @@ fuse-spec =
     fill-descs-requires
     (λ c. search needs)
     returns
-    same-length
-    same-length-2
+    (λ c. c .before .before .before .before .fill-descs .kept .0)
+    (λ c. c .before .before .before .before .fill-descs .kept .1 .0)
     returns-2
     returns-3)
