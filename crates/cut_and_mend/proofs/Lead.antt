@@ -1,35 +1,31 @@
 -- The log says where its granule store stands: the stores that its records before kind 5 tell are those that the set makes before it.
--- Assumes nothing.
 use mathlib.Core.Path.{_≡_, refl, sym, ap, ap₂, _∙_}
 use mathlib.Core.List.{List, [], _∷_, _++_, append-assoc}
 use Prim.Native.Nat.{ℕ, zero, suc, _+_, _-_, _*_, _≤_}
 use native.Mathlib.Nat.{zero-add}
 use native.Mathlib.Omega.{arith}
+use lib.Dec.{eqb}
 use lib.ListN.{length, drop, length-append}
 use Rattle.theory.specs.Format.{Format, Laws, gpi}
 use Rattle.theory.specs.Normal.{at, span, base}
 use Rattle.theory.specs.Stores.{fill}
-use Rattle.theory.specs.Events.{Event, filled, dsb-oshst, tlbi, dsb-osh, granule, stores, records, logged}
-use Rattle.theory.specs.Set.{fillEvent, barriers, shatter, breaks, broken, brokenBarriers, newWord, lead, fusing, fused, storeEvents, setEvents}
-use Rattle.theory.proofs.Events.{stores-append, logged-front}
-use Rattle.theory.proofs.Set.{stores-barriers, at-most-13}
+use Rattle.theory.specs.Events.{Event, filled, granule, barrier, kindNumber, stores, records, logged}
+use Rattle.theory.specs.Set.{Target, fillEvent, barriers, shatter, breaks, broken, brokenBarriers, newWord, lead, storeEvents, setEvents}
+use Rattle.theory.proofs.Events.{barrier-number, barrier-tells, stores-append, logged-front}
+use Rattle.theory.proofs.Set.{last, stores-barriers, at-most-13}
 use Rattle.cut_and_mend.specs.Demand3.{storesBefore}
 
 -- no granule store is among these events
 abbrev Quiet : List Event → Type 0
 Quiet [] = Unit {0}
 Quiet (filled a n w ∷ es) = Quiet es
-Quiet (dsb-oshst ∷ es) = Quiet es
-Quiet (tlbi x b ∷ es) = Quiet es
-Quiet (dsb-osh ∷ es) = Quiet es
+Quiet (barrier k x y ∷ es) = Quiet es
 Quiet (granule i j w ∷ es) = ⊥
 
 quiet-append : (a b : List Event) → Quiet a → Quiet b → Quiet (a ++ b)
 quiet-append [] b p q = q
 quiet-append (filled i n w ∷ a) b p q = quiet-append a b p q
-quiet-append (dsb-oshst ∷ a) b p q = quiet-append a b p q
-quiet-append (tlbi x n ∷ a) b p q = quiet-append a b p q
-quiet-append (dsb-osh ∷ a) b p q = quiet-append a b p q
+quiet-append (barrier k x y ∷ a) b p q = quiet-append a b p q
 quiet-append (granule i j w ∷ a) b p q = absurd p
 
 -- ---- what stands before the granule store is quiet
@@ -71,35 +67,33 @@ unfolding storesBefore records stores
 before o [] b i j w rest q = refl
 before o (filled k n v ∷ a) b i j w rest q =
     ap₂ _+_ (length-fill (o + k) k n v) (before o a b i j w rest q) ∙ sym (length-append (fill k n v) (stores a))
-before o (dsb-oshst ∷ a) b i j w rest q = zero-add _ ∙ before o a b i j w rest q
-before o (tlbi x n ∷ a) b i j w rest q = zero-add _ ∙ before o a b i j w rest q
-before o (dsb-osh ∷ a) b i j w rest q = zero-add _ ∙ before o a b i j w rest q
+before o (barrier k x y ∷ a) b i j w rest q =
+    rw (barrier-number k .1, barrier-tells k x y 0) (zero-add _ ∙ before o a b i j w rest q)
 before o (granule k m v ∷ a) b i j w rest q = absurd q
 
 -- ---- THE THEOREM
 
-module _ (F : Format) (L : Laws F) (u : ℕ) (t : List ℕ) (i j g x b o : ℕ) where
+module _ (F : Format) (L : Laws F) (u : ℕ) (t : List ℕ) (q : Target) (o : ℕ) where
   -- the events in two lots around the granule store
   abbrev first : List Event
-  first = broken F u t i ++ brokenBarriers x (F .size (at t i))
+  first = broken F u t (q .word) ++ brokenBarriers (q .address) (F .size (at t (q .word)))
 
-  abbrev last : List Event
-  last = barriers x b ++ fused F u g i (fusing F u t i j g)
+  abbrev rest : List Event
+  rest = barriers (q .address) (q .bytes) ++ last F u t q
 
-  around : setEvents F u t i j g x b ≡ first ++ granule i j (newWord F t i j g) ∷ last
+  around : setEvents F u t q ≡ first ++ granule (q .word) (q .granule) (newWord F t q) ∷ rest
   unfolding setEvents storeEvents
   around = simp append-assoc
 
-  first-stores : length (stores first) ≡ lead F u t i
+  first-stores : length (stores first) ≡ lead F u t (q .word)
   unfolding lead
   first-stores =
-      rw (stores-append (broken F u t i) (brokenBarriers x (F .size (at t i))), stores-barriers x (F .size (at t i)))
-      (length-append (stores (broken F u t i)) [] ∙ omega arith)
+      rw (stores-append (broken F u t (q .word)) (brokenBarriers (q .address) (F .size (at t (q .word)))), stores-barriers (q .address) (F .size (at t (q .word))))
+      (length-append (stores (broken F u t (q .word))) [] ∙ omega arith)
 
-  pub log-lead : (log : List ℕ) → 52 ≤ length log
-      → storesBefore (length (setEvents F u t i j g x b)) (logged o 0 (setEvents F u t i j g x b) log) ≡ lead F u t i
+  pub log-lead : (log : List ℕ) → 52 ≤ length log → storesBefore (length (setEvents F u t q)) (logged o 0 (setEvents F u t q) log) ≡ lead F u t (q .word)
   log-lead log long =
-      rw (logged-front o (setEvents F u t i j g x b) log (omega (arith, at-most-13 F L u t i j g x b)))
-      (ap (λ (es : List Event). storesBefore (length es) (records o es ++ drop (4 * length (setEvents F u t i j g x b)) log)) around
-      ∙ before o first last i j (newWord F t i j g) (drop (4 * length (setEvents F u t i j g x b)) log) (quiet-broken F u t i x)
+      rw (logged-front o (setEvents F u t q) log (omega (arith, at-most-13 F L u t q)))
+      (ap (λ (es : List Event). storesBefore (length es) (records o es ++ drop (4 * length (setEvents F u t q)) log)) around
+      ∙ before o first rest (q .word) (q .granule) (newWord F t q) (drop (4 * length (setEvents F u t q)) log) (quiet-broken F u t (q .word) (q .address))
       ∙ first-stores)

@@ -107,3 +107,7 @@ module _ {q : Lent} {x : ℕ} {w : Widths} {s : Site} (f : Found q x w s) where
     -- and every address that names the table lies where it lay
     pub lay-place : (y : ℕ) → Names w x y → placed (layIn q s T) y ≡ Table (siteAt w s y)
     lay-place y n = over-place q (layIn q s T .arena) lay-length Plain y ∙ f .place y n
+
+-- a call that is no set finds x at its site
+pub own-place : {q : Lent} {x : ℕ} {w : Widths} {s : Site} → Found q x w s → placed q x ≡ Table s
+own-place {x = x} {s = s} f = f .place x (record { below = f .below; entry = refl }) ∙ ap Table (rw (← f .index, ← f .granule) refl)
