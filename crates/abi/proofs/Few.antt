@@ -1,5 +1,5 @@
--- A set's answer and counts are small, whatever it is asked: at most 13 records, and each word of two ranges of 512 MB stored once, and the granule.
--- A mend stores at most the words of its table. So the packed number's parts don't run into one another.
+-- A set's answer and counts are small, whatever it is asked: at most 13 records, and each word of two ranges of 512 MB stored once, and the
+-- granule. A mend stores at most the words of its table. So the packed number's parts don't run into one another. Crate `abi`.
 -- Assumes nothing.
 use mathlib.Core.Path.{_≡_, refl}
 use mathlib.Core.Bool.{Bool, true, false}
@@ -14,7 +14,8 @@ use Rattle.gpi.specs.Gpi.{num, gpiAt}
 use Rattle.theory.specs.Format.{Format, Laws, gpi}
 use Rattle.theory.specs.Normal.{at, span, normalWord}
 use Rattle.theory.specs.Events.{granule, count}
-use Rattle.theory.specs.Set.{Fused, nowhere, level, refused, barriers, breaks, broken, brokenBarriers, newWord, fusing, fused, storeEvents, setEvents}
+use Rattle.theory.specs.Set.{Fused, nowhere, level, refused, barriers, breaks}
+use Rattle.theory.specs.Set.{broken, brokenBarriers, newWord, fusing, fused, storeEvents, setEvents}
 use Rattle.theory.proofs.Mend.{mendCount-is, differing-few}
 use Rattle.theory.proofs.Set.{at-most-13, count-append, count-fill, count-shatter, fusing-level}
 use Rattle.l1.specs.Arm.{arm}
@@ -52,7 +53,8 @@ module _ (F : Format) (L : Laws F) (u : ℕ) (h : u ≤ 32) (t : List ℕ) (i j 
     where
       go : (s : ℕ) → F .size (at t i) ≡ s → count (breaks F u (gpi F (at t i)) i s ++ brokenBarriers x s) ≤ 8192
       go zero e = omega arith
-      go (suc l) e = simp (count-append, count-shatter F u (gpi F (at t i)) i l) (omega (arith, span-most u l h (L .size-small (at t i) l e)))
+      go (suc l) e =
+          simp (count-append, count-shatter F u (gpi F (at t i)) i l) (omega (arith, span-most u l h (L .size-small (at t i) l e)))
 
   fused-few : count (fused F u g i (fusing F u t i j g)) ≤ 8192
   unfolding fused count

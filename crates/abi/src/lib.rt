@@ -1,4 +1,4 @@
-// The C interface: docs/ABI.md. Each export packs what its call answers into one number; what it leaves is what the call leaves.
+// Crate `abi`. The C interface: docs/ABI.md. Each export packs what its call answers into one number; it leaves what the call leaves.
 ghost use mathlib.Core.Path.{_≡_};
 ghost use Prim.Native.Nat.{_+_, _*_, _<_, _≤_};
 ghost use Rattle.abi.specs.Packed.{lookedPacked, changedPacked, mendedPacked, checkedPacked, Small, Few};
@@ -97,7 +97,8 @@ pub extern "C" fn gpt_set(
     address: u64,
     gpi: u64,
 ) -> u64
-    ensures { λ r. ⌜ SetLeft (setOf (configOf pps pgs l0gptsz flags) (now (l0 .entry)) (now (arena .entry)) base (now (log .entry)) address gpi) r (now (arena .exit)) (now (log .exit)) ⌝ }
+    ensures { λ r. ⌜ SetLeft (setOf (configOf pps pgs l0gptsz flags) (now (l0 .entry)) (now (arena .entry)) base
+        (now (log .entry)) address gpi) r (now (arena .exit)) (now (log .exit)) ⌝ }
 {
     let c = config::from_flags(pps, pgs, l0gptsz, flags);
     pack_changed(gpt::set(c, l0, arena, PA(base), log, PA(address), gpi))
@@ -116,7 +117,8 @@ pub extern "C" fn gpt_mend(
     address: u64,
     limit: u64,
 ) -> u64
-    ensures { λ r. ⌜ MendLeft (mendOf (configOf pps pgs l0gptsz flags) (now (l0 .entry)) (now (arena .entry)) base address limit) r (now (arena .exit)) ⌝ }
+    ensures { λ r. ⌜ MendLeft (mendOf (configOf pps pgs l0gptsz flags) (now (l0 .entry)) (now (arena .entry)) base address limit)
+        r (now (arena .exit)) ⌝ }
 {
     let c = config::from_flags(pps, pgs, l0gptsz, flags);
     pack_mended(mend::mend(c, l0, arena, PA(base), PA(address), limit))
