@@ -1,4 +1,4 @@
--- What the widths of a configuration that was taken are, whatever its fields say.
+-- What the widths of a configuration that was taken are, whatever its fields say. Crate `config`.
 -- Assumes nothing.
 use mathlib.Core.Path.{_≡_, refl, sym, _∙_, subst}
 use mathlib.Core.Bool.{Bool, true, false, cond, _&&_}
@@ -29,7 +29,8 @@ module _ (t : List Width) (a b : ℕ) (e : every (λ k. between a b (getD t k Un
     where
       go : Dec (n < length t) → (a ≤ w) × (w ≤ b)
       go (yes h) =
-          let p = and-both (leb a w) (leb w b) (subst (λ (x : Width). between a b x ≡ true) q (at (λ k. between a b (getD t k Unlisted)) (length t) e n h)) in
+          let p = and-both (leb a w) (leb w b)
+          (subst (λ (x : Width). between a b x ≡ true) q (at (λ k. between a b (getD t k Unlisted)) (length t) e n h)) in
           (leb-true a w (p .0), leb-true w b (p .1))
       go (no h) =
           let p : _≡_ {A = Width} Unlisted (Bits w) = sym (List·getD-eq-default t Unlisted (omega arith)) ∙ q in
@@ -43,7 +44,8 @@ pgs-range : (n w : ℕ) → pgsWidth n ≡ Bits w → (12 ≤ w) × (w ≤ 16)
 pgs-range = range (Bits 12 ∷ Bits 16 ∷ Bits 14 ∷ []) 12 16 refl
 
 l0gptsz-range : (n w : ℕ) → l0gptszWidth n ≡ Bits w → (30 ≤ w) × (w ≤ 39)
-l0gptsz-range = range (Bits 30 ∷ Unlisted ∷ Unlisted ∷ Unlisted ∷ Bits 34 ∷ Unlisted ∷ Bits 36 ∷ Unlisted ∷ Unlisted ∷ Bits 39 ∷ []) 30 39 refl
+l0gptsz-range =
+    range (Bits 30 ∷ Unlisted ∷ Unlisted ∷ Unlisted ∷ Bits 34 ∷ Unlisted ∷ Bits 36 ∷ Unlisted ∷ Unlisted ∷ Bits 39 ∷ []) 30 39 refl
 
 pub listed-widths : (c : Config) (w : Widths) → configuredOf c ≡ Ok w → Listed w
 unfolding configuredOf
@@ -59,8 +61,10 @@ listed-widths c w e = go (ppsWidth (c .pps)) refl (pgsWidth (c .pgs)) refl (l0gp
         let k : record { pps = p; pgs = g; l0gptsz = l } ≡ w = cc in
         subst Listed k record { pgs-least = x .0; pgs-most = x .1; l0-least = y .0; l0-most = y .1; wide = ltb-false p l q; pps-most = z }
 
-    go : (x : Width) → ppsWidth (c .pps) ≡ x → (y : Width) → pgsWidth (c .pgs) ≡ y → (z : Width) → l0gptszWidth (c .l0gptsz) ≡ z → (o : Bool)
-        → listed x (λ p. listed y (λ g. listed z (λ l. cond o (cond (ltb p l) InvalidConfiguration (Ok (record { pps = p; pgs = g; l0gptsz = l }))) GptNotInitialized))) ≡ Ok w
+    go : (x : Width) → ppsWidth (c .pps) ≡ x → (y : Width) → pgsWidth (c .pgs) ≡ y → (z : Width) → l0gptszWidth (c .l0gptsz) ≡ z
+        → (o : Bool)
+        → listed x (λ p. listed y (λ g. listed z (λ l.
+        cond o (cond (ltb p l) InvalidConfiguration (Ok (record { pps = p; pgs = g; l0gptsz = l }))) GptNotInitialized))) ≡ Ok w
         → Listed w
     go Unlisted a y b z d o e = none (cc)
     go (Bits p) a Unlisted b z d o e = none (cc)

@@ -1,4 +1,4 @@
--- Worked examples of the definitions, by computation alone.
+-- Worked examples of the definitions, by computation alone. Crate `config`.
 -- Assumes nothing.
 use mathlib.Core.Path.{_≡_, refl}
 use mathlib.Core.Bool.{Bool, true, false}
@@ -7,16 +7,28 @@ use Rattle.gpi.specs.declared.Gpi.the-variants.{NonSecureOnly, NoAccess7, Secur
 use Rattle.config.specs.declared.Config.{Config}
 use Rattle.config.specs.declared.Configured.the-variants.{Ok}
 use Rattle.config.specs.Fields.{configuredOf, number, supportedOf}
-use Rattle.config.specs.Flags.{configOf, flagsOf}
+use Rattle.config.specs.Flags.{configOf}
 
 abbrev with : ℕ → ℕ → ℕ → Bool → Config
-with pps pgs l0 gpc =
-    record { pps = pps; pgs = pgs; l0gptsz = l0; gpc = gpc; sa = false; nsp = false; na6 = false; na7 = true; nso = true; gdi = false; gpc2 = true }
+with p g l o =
+    let n = false in
+    record { pps = p; pgs = g; l0gptsz = l; gpc = o; sa = n; nsp = n; na6 = n; na7 = true; nso = true; gdi = n; gpc2 = true }
 
 -- "PPS 0, L0GPTSZ 0, PGS 1, GPC on, all else off"
 all-else-off :
-    configOf 0 1 0 1 ≡ record { pps = 0; pgs = 1; l0gptsz = 0; gpc = true; sa = false; nsp = false; na6 = false; na7 = false; nso = false;
-      gdi = false; gpc2 = false }
+    configOf 0 1 0 1 ≡ record {
+      pps = 0;
+      pgs = 1;
+      l0gptsz = 0;
+      gpc = true;
+      sa = false;
+      nsp = false;
+      na6 = false;
+      na7 = false;
+      nso = false;
+      gdi = false;
+      gpc2 = false;
+    }
 all-else-off = refl
 
 -- bits 0, 4, 5 and 7
@@ -50,5 +62,6 @@ unfolding configuredOf
 unlisted-l0gptsz = refl
 
 -- 7 needs GDI besides its flag; 13 needs GPC2
-supports : (supportedOf (with 0 1 0 true) NoAccess7 ≡ false) × (supportedOf (with 0 1 0 true) NonSecureOnly ≡ true) × (supportedOf (with 0 1 0 true) Secure ≡ true)
+supports : (supportedOf (with 0 1 0 true) NoAccess7 ≡ false) × (supportedOf (with 0 1 0 true) NonSecureOnly ≡ true) ×
+    (supportedOf (with 0 1 0 true) Secure ≡ true)
 supports = (refl, refl, refl)

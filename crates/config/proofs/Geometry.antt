@@ -1,5 +1,5 @@
--- The arithmetic of widths, once for every granule size: powers of two as the code computes them, where an index lies, how many words a size
--- has, and that the 512 MB range of any word lies in its table.
+-- The arithmetic of widths, once for every granule size: powers of two as the code computes them, where an index lies, how many words a
+-- size has, and that the 512 MB range of any word lies in its table. Crate `config`.
 -- Assumes nothing.
 use mathlib.Core.Path.{_≡_, refl, sym, ap, _∙_}
 use Prim.Native.Nat.{ℕ, _+_, _-_, _*_, _/_, _%_, _≤_, _<_, _^_}
@@ -64,7 +64,8 @@ module _ (w : Widths) (l : Listed w) where
   times-16 : (r s : Size) → 1 ≤ sizeNum r → sizeNum s ≡ sizeNum r + 1 → sizeWords w s ≡ 16 * sizeWords w r
   times-16 r s h e =
       let k : 13 + 4 * sizeNum s - w .pgs ≡ 4 + (13 + 4 * sizeNum r - w .pgs) = omega arith in
-      words-pow s (omega arith) ∙ ap (λ (n : ℕ). 2 ^ n) k ∙ pow-add 2 4 (13 + 4 * sizeNum r - w .pgs) ∙ ap (λ (n : ℕ). 16 * n) (sym (words-pow r h))
+      words-pow s (omega arith) ∙ ap (λ (n : ℕ). 2 ^ n) k ∙ pow-add 2 4 (13 + 4 * sizeNum r - w .pgs)
+      ∙ ap (λ (n : ℕ). 16 * n) (sym (words-pow r h))
 
   pub words-32 : sizeWords w MB32 ≡ 16 * sizeWords w MB2
   words-32 = times-16 MB2 MB32 (lit< tt) refl

@@ -1,5 +1,5 @@
 -- Document 01, "What a call is lent" and "Numbers handed back": the widths that the fields mean, the refusals 1, 2, 1 in their order, and
--- which GPIs are supported.
+-- which GPIs are supported. Crate `config`.
 -- Assumes nothing: these are definitions.
 use mathlib.Core.Bool.{Bool, true, cond, _&&_}
 use mathlib.Core.List.{[], _∷_}
@@ -7,7 +7,8 @@ use Prim.Native.Nat.{ℕ, _≤_}
 use lib.Dec.{ltb}
 use lib.ListN.{getD}
 use Rattle.gpi.specs.declared.Gpi.{Gpi}
-use Rattle.gpi.specs.declared.Gpi.the-variants.{NoAccess, SystemAgent, NonSecureProtected, NoAccess6, NoAccess7, Secure, NonSecure, Root, Realm, NonSecureOnly, Any}
+use Rattle.gpi.specs.declared.Gpi.the-variants.{NoAccess, SystemAgent, NonSecureProtected, NoAccess6, NoAccess7}
+use Rattle.gpi.specs.declared.Gpi.the-variants.{Secure, NonSecure, Root, Realm, NonSecureOnly, Any}
 use Rattle.config.specs.declared.Config.{Config}
 use Rattle.config.specs.declared.Width.{Width}
 use Rattle.config.specs.declared.Width.the-variants.{Bits, Unlisted}

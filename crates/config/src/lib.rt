@@ -1,6 +1,7 @@
-// The configuration by value, the widths that it means, and which GPIs it supports. From gpt.rs, last third: `GranuleProtectionConfig`.
-// The index rules: how an address finds its L0 entry, its word and its granule, and how long tables and ranges are. From gpt.rs, last third:
-// `l0_resolve`, `l1_resolve`, `granule_resolve`.
+// Crate `config`. The configuration by value, the flags as one number, the widths that the fields mean, and which GPIs are supported. From
+// gpt.rs, last third: `GranuleProtectionConfig`.
+// The index rules: how an address finds its L0 entry, its word and its granule, and how long tables and ranges are. From gpt.rs, last
+// third: `l0_resolve`, `l1_resolve`, `granule_resolve`.
 ghost use mathlib.Core.Path.{_≡_};
 ghost use mathlib.Core.Bool.{_&&_};
 ghost use Prim.Native.Nat.{_<_, _^_};

@@ -1,4 +1,4 @@
-// The dump: an image on standard input, its text on standard output. All of the text is made by the library `dump_text`.
+// The dump: an image on standard input, its text on standard output. All of the text is made by the library `dump_text`. Crate `dump`.
 
 fn main() {
     let mut out = io::large_buffer();

@@ -3,7 +3,7 @@
 use mathlib.Core.Path.{_≡_, refl, sym, ap, _∙_, subst}
 use mathlib.Core.Bool.{Bool, true, false, cond, not, _||_}
 use mathlib.Core.List.{List}
-use Prim.Native.Nat.{ℕ, _+_, _*_, _≤_, _<_}
+use Prim.Native.Nat.{ℕ, _+_, _*_, _≤_}
 use native.Mathlib.Omega.{arith}
 use borrow.Author.Tests.{eq-eqb, ne-eqb, le-ltb, ltb-false, eqb-true}
 use lib.Dec.{eqb, ltb}
@@ -51,7 +51,8 @@ front-fits s f e = start (eqb (length s) 0) (headOf (getD s 0 0)) refl e
     v = getD s 0 0
 
     judged : (n : ℕ) → headOf v ≡ Known n → (g : Image) → g ≡ imageAt v n s
-        → (a b c d : Bool) → ltb 64 (g .l0) ≡ a → ltb 4096 (g .arena) ≡ b → ltb (length s) (g .end) ≡ c → eqb (5 + toldLength s) (g .end) ≡ d
+        → (a b c d : Bool) → ltb 64 (g .l0) ≡ a → ltb 4096 (g .arena) ≡ b → ltb (length s) (g .end) ≡ c
+        → eqb (5 + toldLength s) (g .end) ≡ d
         → cond (a || b) (Bad Counts) (cond c (Bad Short) (cond (not d) (Bad Length) (Whole g))) ≡ Whole f → Fits s f
     judged n k g i false false false true x y z t w =
         subst (Fits s) (cc)

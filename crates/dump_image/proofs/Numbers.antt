@@ -1,4 +1,4 @@
--- Laws of big-endian numbers.
+-- Laws of big-endian numbers. Crate `dump_image`.
 -- Assumes nothing.
 use mathlib.Core.Path.{_≡_, refl, sym, ap, ap₂, _∙_}
 use mathlib.Core.List.{List, [], _∷_, _++_, append-nil}
@@ -40,7 +40,8 @@ pub words-none : (s : List ℕ) (i : ℕ) (o : List ℕ) → o ≡ wordsFrom s i
 unfolding wordsFrom
 words-none s i o = refl
 
-pub words-more : {v : ℕ} (s : List ℕ) (i k : ℕ) (o₀ o : List ℕ) → k < length o₀ → o ≡ wordsFrom s i k ++ drop k o₀ → v ≡ bigEndian s (i + 8 * k) 8 → set o k v ≡ wordsFrom s i (k + 1) ++ drop (k + 1) o₀
+pub words-more : {v : ℕ} (s : List ℕ) (i k : ℕ) (o₀ o : List ℕ) → k < length o₀ → o ≡ wordsFrom s i k ++ drop k o₀
+    → v ≡ bigEndian s (i + 8 * k) 8 → set o k v ≡ wordsFrom s i (k + 1) ++ drop (k + 1) o₀
 unfolding wordsFrom
 words-more {v} s i k o₀ o h e f =
     ap (λ (l : List ℕ). set l k v) (e ∙ ap (λ (r : List ℕ). wordsFrom s i k ++ r) (drop-cons o₀ k 0 h))
@@ -48,6 +49,7 @@ words-more {v} s i k o₀ o h e f =
     ∙ sym (append-snoc (wordsFrom s i k) v (drop (suc k) o₀))
     ∙ rw (add-one, f)
 
-pub words-all : (s : List ℕ) (i k : ℕ) (o₀ o : List ℕ) → length o₀ ≤ k → k ≤ length o₀ → o ≡ wordsFrom s i k ++ drop k o₀ → o ≡ wordsFrom s i (length o₀)
+pub words-all : (s : List ℕ) (i k : ℕ) (o₀ o : List ℕ) → length o₀ ≤ k → k ≤ length o₀ → o ≡ wordsFrom s i k ++ drop k o₀
+    → o ≡ wordsFrom s i (length o₀)
 words-all s i k o₀ o h j e =
     e ∙ ap (λ (r : List ℕ). wordsFrom s i k ++ r) (drop-of-length-le o₀ h) ∙ append-nil (wordsFrom s i k) ∙ ap (wordsFrom s i) (omega arith)

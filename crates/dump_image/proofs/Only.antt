@@ -1,5 +1,5 @@
--- Only what is written reads as whole: bytes that read as an image are that of a lawful content, which they tell, in the version that they tell.
--- Crate `dump_image`.
+-- Only what is written reads as whole: bytes that read as an image are that of a lawful content, which they tell, in the version that they
+-- tell. Crate `dump_image`.
 -- Assumes nothing.
 use mathlib.Core.Path.{_≡_, refl, sym, ap, ap₂, _∙_, subst}
 use mathlib.Core.List.{List, [], _∷_, _++_, append-assoc, append-nil}
@@ -8,8 +8,7 @@ use native.Mathlib.Nat.{pow-suc}
 use native.Mathlib.Omega.{arith}
 use lib.Dec.{lit<}
 use lib.ListN.{length, getD, take, drop, length-drop, take-append-drop, drop-of-length-le}
-use lib.Seq.{take-all, take-suc, take-add, drop-cons, drop-drop, getD-drop}
-use Rattle.config.specs.Flags.{flagsOf}
+use lib.Seq.{take-suc, take-add, drop-cons, drop-drop, getD-drop}
 use Rattle.config.proofs.Flags.{flags-again}
 use Rattle.dump_image.specs.declared.Head.the-variants.{Known}
 use Rattle.dump_image.specs.declared.Image.{Image}
@@ -17,7 +16,7 @@ use Rattle.dump_image.specs.declared.Read.the-variants.{Whole}
 use Rattle.dump_image.specs.Image.{bigEndian, wordsFrom, headOf, fieldsAt, toldLength, imageAt, frontOf, readOf, l0Words, arenaWords}
 use Rattle.dump_image.specs.Encoding.{Content, Below, Lawful, bytes, wordsBytes, fieldsOf, restOf, imageOf}
 use Rattle.dump_image.proofs.Numbers.{length-words}
-use Rattle.dump_image.proofs.Fits.{each-version, Fits, ends, front-fits, whole-front}
+use Rattle.dump_image.proofs.Fits.{each-version, Fits, front-fits, whole-front}
 use Rattle.dump_image.proofs.RoundTrip.{rest-length}
 
 -- ---- bytes
@@ -34,7 +33,8 @@ below-append n (x ∷ a) b h k = (h .0, below-append n a b (h .1) k)
 words-append : (a b : List ℕ) → wordsBytes (a ++ b) ≡ wordsBytes a ++ wordsBytes b
 unfolding wordsBytes
 words-append [] b = refl
-words-append (w ∷ a) b = ap (λ (l : List ℕ). bytes 8 w ++ l) (words-append a b) ∙ sym (append-assoc (bytes 8 w) (wordsBytes a) (wordsBytes b))
+words-append (w ∷ a) b =
+    ap (λ (l : List ℕ). bytes 8 w ++ l) (words-append a b) ∙ sym (append-assoc (bytes 8 w) (wordsBytes a) (wordsBytes b))
 
 module _ (s : List ℕ) (h : Below 256 s) where
   number-below : (i n : ℕ) → bigEndian s i n < 256 ^ n
@@ -61,14 +61,16 @@ module _ (s : List ℕ) (h : Below 256 s) where
   words-again i (suc n) k =
       words-append (wordsFrom s i n) (bigEndian s (i + 8 * n) 8 ∷ [])
       ∙ ap₂ (λ (a b : List ℕ). a ++ b) (words-again i n (omega arith))
-      (append-nil (bytes 8 (bigEndian s (i + 8 * n) 8)) ∙ bytes-again (i + 8 * n) 8 (omega arith) ∙ ap (take 8) (sym (drop-drop (8 * n) i s)))
+      (append-nil (bytes 8 (bigEndian s (i + 8 * n) 8)) ∙ bytes-again (i + 8 * n) 8 (omega arith)
+      ∙ ap (take 8) (sym (drop-drop (8 * n) i s)))
       ∙ sym (take-add (8 * n) 8 (drop i s))
       ∙ ap (λ (m : ℕ). take m (drop i s)) (let z : 8 * n + 8 ≡ 8 * suc n = omega arith in z)
 
   words-below : (i n : ℕ) → Below (2 ^ 64) (wordsFrom s i n)
   unfolding wordsFrom
   words-below i zero = tt
-  words-below i (suc n) = below-append (2 ^ 64) (wordsFrom s i n) (bigEndian s (i + 8 * n) 8 ∷ []) (words-below i n) (number-below (i + 8 * n) 8, tt)
+  words-below i (suc n) =
+      below-append (2 ^ 64) (wordsFrom s i n) (bigEndian s (i + 8 * n) 8 ∷ []) (words-below i n) (number-below (i + 8 * n) 8, tt)
 
 -- n bytes from index i, one by one
 abbrev run : List ℕ → ℕ → ℕ → List ℕ
@@ -102,7 +104,8 @@ fields-again s h = each-version (λ (v n : ℕ). 5 + n ≤ length s → Again s 
     one l =
         record {
           same =
-              ap (λ (y : ℕ). getD s 5 0 ∷ getD s 6 0 ∷ getD s 7 0 ∷ y ∷ []) (flags-again (getD s 5 0) (getD s 6 0) (getD s 7 0) (getD s 8 0) (byte 8))
+              ap (λ (y : ℕ). getD s 5 0 ∷ getD s 6 0 ∷ getD s 7 0 ∷ y ∷ [])
+              (flags-again (getD s 5 0) (getD s 6 0) (getD s 7 0) (getD s 8 0) (byte 8))
               ∙ run-take s 5 4 l;
           pps = byte 5;
           pgs = byte 6;
@@ -155,10 +158,13 @@ module _ (s : List ℕ) (h : Below 256 s) (n : ℕ) (known : headOf (getD s 0 0)
         (part s (bytes 4 (length (restOf v C))) _ 1 4 5 refl (ap (bytes 4) L ∙ bytes-again s h 1 4 (omega arith))
         (part s (fieldsOf v (f .config)) _ 5 n (5 + n) refl (fields .same)
         (part s (bytes 8 (bigEndian s (5 + n) 8)) _ (5 + n) 8 (13 + n) (omega arith) (bytes-again s h (5 + n) 8 (omega arith))
-        (part s (bytes 4 (length (l0Words s f))) _ (13 + n) 4 (17 + n) (omega arith) (ap (bytes 4) a ∙ bytes-again s h (13 + n) 4 (omega arith))
-        (part s (bytes 4 (length (arenaWords s f))) _ (17 + n) 4 (21 + n) (omega arith) (ap (bytes 4) b ∙ bytes-again s h (17 + n) 4 (omega arith))
+        (part s (bytes 4 (length (l0Words s f))) _ (13 + n) 4 (17 + n) (omega arith)
+        (ap (bytes 4) a ∙ bytes-again s h (13 + n) 4 (omega arith))
+        (part s (bytes 4 (length (arenaWords s f))) _ (17 + n) 4 (21 + n) (omega arith)
+        (ap (bytes 4) b ∙ bytes-again s h (17 + n) 4 (omega arith))
         (part s (wordsBytes (l0Words s f)) _ (21 + n) (8 * f .l0) (21 + n + 8 * f .l0) refl (words-again s h (21 + n) (f .l0) (omega arith))
-        (part s (wordsBytes (arenaWords s f)) _ (21 + n + 8 * f .l0) (8 * f .arena) (f .end) (omega arith) (words-again s h _ (f .arena) (omega arith))
+        (part s (wordsBytes (arenaWords s f)) _ (21 + n + 8 * f .l0) (8 * f .arena) (f .end) (omega arith)
+        (words-again s h _ (f .arena) (omega arith))
         refl))))))))
 
 -- bytes with an image at their front are the image of a lawful content, of the one that they tell, and what follows it
@@ -174,6 +180,7 @@ only-front s f h e =
 pub only : (s : List ℕ) (f : Image) → Below 256 s → readOf s ≡ Whole f → Lawful (contentOf s f) × (imageOf (getD s 0 0) (contentOf s f) ≡ s)
 only s f h e =
     let w = whole-front s f e in
-    let o = only-front s f h (w .0) in
-    (o .0,
-    sym (append-nil _) ∙ ap (λ (r : List ℕ). imageOf (getD s 0 0) (contentOf s f) ++ r) (sym (drop-of-length-le s (w .1))) ∙ o .1)
+    let o = only-front s f h (w .0) in (
+      o .0,
+      sym (append-nil _) ∙ ap (λ (r : List ℕ). imageOf (getD s 0 0) (contentOf s f) ++ r) (sym (drop-of-length-le s (w .1))) ∙ o .1,
+    )

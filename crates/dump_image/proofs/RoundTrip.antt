@@ -1,4 +1,5 @@
--- What is written is read back: the image of every lawful content, in every known version, reads as its fields and its words. Crate `dump_image`.
+-- What is written is read back: the image of every lawful content, in every known version, reads as its fields and its words. Crate
+-- `dump_image`.
 -- Assumes nothing.
 use mathlib.Core.Path.{_≡_, refl, sym, ap, ap₂, _∙_, subst}
 use mathlib.Core.List.{List, [], _∷_, _++_, append-assoc, append-nil}
@@ -12,12 +13,12 @@ use lib.ListN.{length, getD, length-append}
 use lib.Seq.{getD-append-add, getD-at}
 use Rattle.pa.specs.Pa.{pa}
 use Rattle.config.specs.declared.Config.{Config}
-use Rattle.config.specs.Flags.{configOf, flagsOf}
 use Rattle.config.proofs.Flags.{flags-back}
 use Rattle.dump_image.specs.declared.Head.the-variants.{Known}
 use Rattle.dump_image.specs.declared.Image.{Image}
 use Rattle.dump_image.specs.declared.Read.the-variants.{Whole}
-use Rattle.dump_image.specs.Image.{bigEndian, wordsFrom, headOf, fieldsAt, toldLength, l0Count, arenaCount, frontOf, readOf, l0Words, arenaWords}
+use Rattle.dump_image.specs.Image.{bigEndian, wordsFrom, headOf, fieldsAt, toldLength}
+use Rattle.dump_image.specs.Image.{l0Count, arenaCount, frontOf, readOf, l0Words, arenaWords}
 use Rattle.dump_image.specs.Encoding.{Content, Below, Lawful, bytes, wordsBytes, fieldsOf, restOf, imageOf}
 use Rattle.dump_image.proofs.Fits.{each-version, fields-few, front-whole}
 
@@ -44,7 +45,8 @@ unfolding bigEndian bytes
 number-here zero w q h = sym (lt-one h)
 number-here (suc n) w q h =
     let p : w < 256 ^ n * 256 = subst (λ (k : ℕ). w < k) (pow-suc 256 n) h in
-    let e : (bytes n (w / 256) ++ (w % 256 ∷ [])) ++ q ≡ bytes n (w / 256) ++ (w % 256 ∷ q) = append-assoc (bytes n (w / 256)) (w % 256 ∷ []) q in
+    let e : (bytes n (w / 256) ++ (w % 256 ∷ [])) ++ q ≡ bytes n (w / 256) ++ (w % 256 ∷ q) = append-assoc (bytes n (w / 256))
+    (w % 256 ∷ []) q in
     ap₂ (λ (x y : ℕ). x * 256 + y)
     (ap (λ (l : List ℕ). bigEndian l 0 n) e ∙ number-here n (w / 256) (w % 256 ∷ q) (div-lt-iff-lt-mul (lit< tt) .1 p))
     (ap (λ (l : List ℕ). getD l (0 + n) 0) e ∙ getD-at (bytes n (w / 256)) (w % 256) q 0 (0 + n) (length-bytes n (w / 256) ∙ omega arith))
@@ -79,7 +81,8 @@ words-here (w ∷ ws) q h =
 length-wordsBytes : (ws : List ℕ) → length (wordsBytes ws) ≡ 8 * length ws
 unfolding wordsBytes
 length-wordsBytes [] = refl
-length-wordsBytes (w ∷ ws) = length-append (bytes 8 w) (wordsBytes ws) ∙ (let h = length-wordsBytes ws in let l = length-bytes 8 w in omega arith)
+length-wordsBytes (w ∷ ws) =
+    length-append (bytes 8 w) (wordsBytes ws) ∙ (let h = length-wordsBytes ws in let l = length-bytes 8 w in omega arith)
 
 -- ---- the versions
 
@@ -87,7 +90,8 @@ length-wordsBytes (w ∷ ws) = length-append (bytes 8 w) (wordsBytes ws) ∙ (le
 pub fields-length : (v n : ℕ) → headOf v ≡ Known n → (c : Config) → length (fieldsOf v c) ≡ n
 fields-length = each-version (λ (v n : ℕ). (c : Config) → length (fieldsOf v c) ≡ n) (λ c. refl)
 
-fields-back : (v n : ℕ) → headOf v ≡ Known n → (w : ℕ) (c : Config) (b : List ℕ) → fieldsAt v ((v ∷ []) ++ (bytes 4 w ++ (fieldsOf v c ++ b))) ≡ c
+fields-back : (v n : ℕ) → headOf v ≡ Known n → (w : ℕ) (c : Config) (b : List ℕ)
+    → fieldsAt v ((v ∷ []) ++ (bytes 4 w ++ (fieldsOf v c ++ b))) ≡ c
 unfolding bytes
 fields-back =
     each-version (λ (v n : ℕ). (w : ℕ) (c : Config) (b : List ℕ) → fieldsAt v ((v ∷ []) ++ (bytes 4 w ++ (fieldsOf v c ++ b))) ≡ c)

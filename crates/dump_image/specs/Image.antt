@@ -1,4 +1,5 @@
--- The dump's image as it is read: document 01, "Dump image and text". `Encoding` has it the other way, as it is written. Crate `dump_image`.
+-- The dump's image as it is read: document 01, "Dump image and text". `Encoding` has it the other way, as it is written. Crate
+-- `dump_image`.
 -- Assumes nothing: these are definitions.
 use mathlib.Core.Bool.{cond, not, _||_}
 use mathlib.Core.List.{List, [], _∷_, _++_}
@@ -36,8 +37,8 @@ headOf v = cond (eqb v 1) (Known 4) Unknown
 abbrev pub fieldsAt : ℕ → List ℕ → Config
 fieldsAt v s = configOf (getD s 5 0) (getD s 6 0) (getD s 7 0) (getD s 8 0)
 
--- ---- "version byte 1; 4-byte length of the rest; then PPS, PGS, L0GPTSZ, flags .., arena base (8), L0 count (4), arena count (4), L0 words,
--- arena words": the length is at 1, and behind the n bytes of fields the base is at 5 + n, the counts at 13 + n and 17 + n
+-- ---- "version byte 1; 4-byte length of the rest; then PPS, PGS, L0GPTSZ, flags .., arena base (8), L0 count (4), arena count (4), L0
+-- words, arena words": the length is at 1, and behind the n bytes of fields the base is at 5 + n, the counts at 13 + n and 17 + n
 
 abbrev pub toldLength : List ℕ → ℕ
 toldLength s = bigEndian s 1 4

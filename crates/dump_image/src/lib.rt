@@ -1,4 +1,4 @@
-// The dump's image read: bytes of any length to a fault, or to what a lookup is lent. Added by the port.
+// The dump's image read: bytes of any length to a fault, or to what a lookup is lent. Added by the port. Crate `dump_image`.
 ghost use mathlib.Core.Path.{_≡_};
 ghost use Prim.Native.Nat.{_+_, _*_, _^_, _≤_, _<_};
 ghost use lib.ListN.{length, getD};
@@ -7,8 +7,8 @@ ghost use Rattle.dump_image.specs.Image.{bigEndian, wordsFrom, headOf, v
 use config::Config;
 use pa::PA;
 
-// What an image tells in front of its words: the fields, the arena's base, and how many words follow for L0 and for the arena; the words start
-// at an index, and behind the last of them is the end.
+// What an image tells in front of its words: the fields, the arena's base, and how many words follow for L0 and for the arena; the words
+// start at an index, and behind the last of them is the end.
 pub struct Image {
     pub config: Config,
     pub base: PA,

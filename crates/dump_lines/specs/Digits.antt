@@ -1,4 +1,5 @@
--- The bytes of numbers, and bytes put into a buffer: what the dump's lines are made of. Document 01, "Dump image and text". Crate `dump_lines`.
+-- The bytes of numbers, and bytes put into a buffer: what the dump's lines are made of. Document 01, "Dump image and text". Crate
+-- `dump_lines`.
 -- Assumes nothing: these are definitions.
 use mathlib.Core.Path.{_≡_}
 use mathlib.Core.Bool.{true, false, cond}
@@ -17,8 +18,8 @@ unfoldable pub hex : ℕ → ℕ → List ℕ
 hex zero x = []
 hex (suc n) x = digitOf (x / 16 ^ n % 16) ∷ hex n x
 
--- a number in decimal: its last digit behind the digits of its tenth part, if it has more than one, so that no zero stands in front. There are n
--- steps at most
+-- a number in decimal: its last digit behind the digits of its tenth part, if it has more than one, so that no zero stands in front. There
+-- are n steps at most
 unfoldable pub digits : ℕ → ℕ → List ℕ
 digits zero x = []
 digits (suc n) x = elim (ltb x 10) [ true ↦ (48 + x) ∷ [] | false ↦ digits n (x / 10) ++ ((48 + x % 10) ∷ []) ]

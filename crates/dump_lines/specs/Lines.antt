@@ -5,7 +5,8 @@ use Prim.Native.Nat.{ℕ, _+_}
 use Prim.Native.Char.{code}
 use Prim.Native.String.{String, [] as end, _∷_ as _then_}
 use Rattle.gpi.specs.declared.Gpi.{Gpi}
-use Rattle.gpi.specs.declared.Gpi.the-variants.{NoAccess, SystemAgent, NonSecureProtected, NoAccess6, NoAccess7, Secure, NonSecure, Root, Realm, NonSecureOnly, Any}
+use Rattle.gpi.specs.declared.Gpi.the-variants.{NoAccess, SystemAgent, NonSecureProtected, NoAccess6, NoAccess7}
+use Rattle.gpi.specs.declared.Gpi.the-variants.{Secure, NonSecure, Root, Realm, NonSecureOnly, Any}
 use Rattle.config.specs.declared.Widths.{Widths}
 use Rattle.resolve.specs.Refusals.{refusalNumber}
 use Rattle.gpt.specs.declared.Looked.{Looked}

@@ -1,4 +1,4 @@
-// The dump's lines as bytes, and the numbers in them, each put into a lent buffer from a place on. Added by the port.
+// The dump's lines as bytes, and the numbers in them, each put into a lent buffer from a place on. Added by the port. Crate `dump_lines`.
 ghost use mathlib.Core.Path.{_≡_};
 ghost use mathlib.Core.List.{[], _∷_, _++_};
 ghost use Prim.Native.Nat.{_+_, _≤_, _<_, _^_};

@@ -1,9 +1,9 @@
-// The dump of an image read from a file, written to a file chunk after chunk. Added by the port.
+// The dump of an image read from a file, written to a file chunk after chunk. Added by the port. Crate `dump_stream`.
 ghost use mathlib.Core.Path.{_≡_};
 ghost use lib.ListN.{length};
 
-// The dump of an image, through a lent buffer; whether all of it was written. It ends early where the file takes no more, or where the buffer has
-// no room for a line, which is never longer than 47 bytes.
+// The dump of an image, through a lent buffer; whether all of it was written. It ends early where the file takes no more, or where the
+// buffer has no room for a line, which is never longer than 47 bytes.
 pub fn print(file: i32, image: &[u8], out: &mut [u8]) -> bool {
     let mut at: u64 = 0;
     loop {

@@ -1,4 +1,4 @@
--- Tables that are shown: no refusal 1 to 4 shuts them out.
+-- Tables that are shown: no refusal 1 to 4 shuts them out. Crate `dump_text`.
 -- Assumes nothing.
 use mathlib.Core.Path.{_≡_, refl, sym, ap, _∙_, subst}
 use mathlib.Core.Bool.{Bool, true, false, cond}
@@ -43,7 +43,8 @@ module _ (c : Config) (L A : List ℕ) (b : ℕ) (w : Widths) where
   pub opened : openingOf c (firstNumber c L A b) ≡ Shown w → Open c L A b w
   opened e = go (configuredOf c) refl e
     where
-      shown : (v : Widths) → configuredOf c ≡ Ok v → (s : Bool) → shuts (firstNumber c L A b) ≡ s → cond s Refused (Shown v) ≡ Shown w → Open c L A b w
+      shown : (v : Widths) → configuredOf c ≡ Ok v → (s : Bool) → shuts (firstNumber c L A b) ≡ s → cond s Refused (Shown v) ≡ Shown w
+          → Open c L A b w
       shown v f true g h = apart (cc)
       shown v f false g h = let k : v ≡ w = cc in fine (subst (λ (u : Widths). configuredOf c ≡ Ok u) k f) g
 

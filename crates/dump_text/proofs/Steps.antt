@@ -1,4 +1,4 @@
--- What is left of a text, as a fact about the definitions: which line comes next, and that the places rise.
+-- What is left of a text, as a fact about the definitions: which line comes next, and that the places rise. Crate `dump_text`.
 -- Assumes nothing.
 use mathlib.Core.Path.{_≡_, refl, sym, ap, _∙_}
 use mathlib.Core.Bool.{Bool, true, false, cond}
@@ -33,8 +33,10 @@ use Rattle.dump_runs.specs.Runs.{from, total, First}
 use Rattle.dump_runs.proofs.Walk.{some-run, none-left}
 use Rattle.dump_text.specs.declared.Opening.{Opening}
 use Rattle.dump_text.specs.declared.Opening.the-variants.{Shown, Refused}
-use Rattle.dump_text.specs.Text.{lines, shuts, openingBy, openingOf, firstNumber, refusedLine, badLine, shownText, tableText, imageText, dumpText}
-use Rattle.dump_text.specs.Chunks.{Step, step, bytesOf, oneStep, runStep, runSteps, openSteps, shownSteps, tableSteps, imageSteps, dumpSteps, none}
+use Rattle.dump_text.specs.Text.{lines, shuts, openingBy, openingOf, firstNumber}
+use Rattle.dump_text.specs.Text.{refusedLine, badLine, shownText, tableText, imageText, dumpText}
+use Rattle.dump_text.specs.Chunks.{Step, step, bytesOf, oneStep, runStep, runSteps}
+use Rattle.dump_text.specs.Chunks.{openSteps, shownSteps, tableSteps, imageSteps, dumpSteps, none}
 
 -- a line of a text: the place behind it is a later one, from there on the rest is left, and it is no longer than 47 bytes
 pub record Leads (S : ℕ → List Step) (k : ℕ) (s : Step) : Type 0 where
@@ -124,7 +126,8 @@ fault-small f = elim f [ Version ↦ lit< tt | Short ↦ lit< tt | Counts ↦ li
 module _ (c : Config) (L A : List ℕ) (b : ℕ) (k : ℕ) where
   shut-left : Left (shownSteps c L A b Refused) k
   shut-left =
-      one-left (refusedLine (firstNumber c L A b)) (short-told (ascii "refused ") (firstNumber c L A b) (looked-small (lookupOf c L A b 0)) (omega arith)) k
+      one-left (refusedLine (firstNumber c L A b))
+      (short-told (ascii "refused ") (firstNumber c L A b) (looked-small (lookupOf c L A b 0)) (omega arith)) k
 
   pub table-left : Left (tableSteps c L A b) k
   unfolding tableSteps
@@ -159,7 +162,9 @@ some-first s = go (readOf s)
 
     go : (r : Read) → none (imageSteps s r 0) ≡ false
     go (Bad f) = refl
-    go (Whole f) = shown (f .config) (l0Words s f) (arenaWords s f) (f .base .0) (openingOf (f .config) (firstNumber (f .config) (l0Words s f) (arenaWords s f) (f .base .0)))
+    go (Whole f) =
+        shown (f .config) (l0Words s f) (arenaWords s f) (f .base .0)
+        (openingOf (f .config) (firstNumber (f .config) (l0Words s f) (arenaWords s f) (f .base .0)))
 
 -- ---- the steps from the start are the text
 
@@ -173,7 +178,10 @@ unfolding tableSteps tableText bytesOf
 table-text c L A b = go (openingOf c (firstNumber c L A b))
   where
     go : (o : Opening) → bytesOf (shownSteps c L A b o 0) ≡ shownText c L A b o
-    go (Shown w) = ap (λ (l : List ℕ). header w ++ l) (run-lines (from (lookupOf c L A b) 0 (total w - 0)) ∙ ap (λ (n : ℕ). lines (from (lookupOf c L A b) 0 n)) (let z : total w - 0 ≡ total w = omega arith in z))
+    go (Shown w) =
+        ap (λ (l : List ℕ). header w ++ l)
+        (run-lines (from (lookupOf c L A b) 0 (total w - 0))
+        ∙ ap (λ (n : ℕ). lines (from (lookupOf c L A b) 0 n)) (let z : total w - 0 ≡ total w = omega arith in z))
     go Refused = append-nil _
 
 pub dump-text : (s : List ℕ) → bytesOf (dumpSteps s 0) ≡ dumpText s

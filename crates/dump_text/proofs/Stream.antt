@@ -1,4 +1,4 @@
--- Chunks of any sizes, one after the other, are the text; and a buffer of 47 bytes always goes on.
+-- Chunks of any sizes, one after the other, are the text; and a buffer of 47 bytes always goes on. Crate `dump_text`.
 -- Assumes nothing.
 use mathlib.Core.Path.{_≡_, refl, sym, ap, ap₂, _∙_, subst}
 use mathlib.Core.Bool.{Bool, true, false, cond}
@@ -22,7 +22,9 @@ front-fits n (s ∷ ss) = go (leb (length (s .bytes)) n) refl (front-fits (n - l
   where
     go : (b : Bool) → leb (length (s .bytes)) n ≡ b → length (bytesOf (front (n - length (s .bytes)) ss)) ≤ n - length (s .bytes)
         → length (bytesOf (cond b (s ∷ front (n - length (s .bytes)) ss) [])) ≤ n
-    go true e h = let l = leb-true (length (s .bytes)) n e in let k = length-append (s .bytes) (bytesOf (front (n - length (s .bytes)) ss)) in omega arith
+    go true e h =
+        let l = leb-true (length (s .bytes)) n e in
+        let k = length-append (s .bytes) (bytesOf (front (n - length (s .bytes)) ss)) in omega arith
     go false e h = omega arith
 
 module _ (S : ℕ → List Step) (left : (k : ℕ) → Left S k) where
@@ -39,7 +41,8 @@ module _ (S : ℕ → List Step) (left : (k : ℕ) → Left S k) where
           (sym y ∙ ap (λ (u : Step). S (u .next)) x, subst (λ (u : Step). k < u .next) x (l .up))
 
   -- a chunk, then the rest from where it ends, is the rest; and no chunk goes back
-  law : (n k : ℕ) (ss : List Step) → S k ≡ ss → (bytesOf (front n ss) ++ bytesOf (S (after k (front n ss))) ≡ bytesOf ss) × (k ≤ after k (front n ss))
+  law : (n k : ℕ) (ss : List Step) → S k ≡ ss
+      → (bytesOf (front n ss) ++ bytesOf (S (after k (front n ss))) ≡ bytesOf ss) × (k ≤ after k (front n ss))
   unfolding front bytesOf after
   law n k [] e = (ap bytesOf e, omega arith)
   law n k (s ∷ ss) e = go (leb (length (s .bytes)) n) (law (n - length (s .bytes)) (s .next) ss (sym (f .0)))
@@ -47,10 +50,14 @@ module _ (S : ℕ → List Step) (left : (k : ℕ) → Left S k) where
       f : (ss ≡ S (s .next)) × (k < s .next)
       f = follow k s ss e
 
-      go : (b : Bool) → (bytesOf (front (n - length (s .bytes)) ss) ++ bytesOf (S (after (s .next) (front (n - length (s .bytes)) ss))) ≡ bytesOf ss) × (s .next ≤ after (s .next) (front (n - length (s .bytes)) ss))
-          → (bytesOf (cond b (s ∷ front (n - length (s .bytes)) ss) []) ++ bytesOf (S (after k (cond b (s ∷ front (n - length (s .bytes)) ss) []))) ≡ s .bytes ++ bytesOf ss) × (k ≤ after k (cond b (s ∷ front (n - length (s .bytes)) ss) []))
+      F : List Step
+      F = front (n - length (s .bytes)) ss
+
+      go : (b : Bool) → (bytesOf F ++ bytesOf (S (after (s .next) F)) ≡ bytesOf ss) × (s .next ≤ after (s .next) F)
+          → (bytesOf (cond b (s ∷ F) []) ++ bytesOf (S (after k (cond b (s ∷ F) []))) ≡ s .bytes ++ bytesOf ss)
+          × (k ≤ after k (cond b (s ∷ F) []))
       go true h = (
-        append-assoc (s .bytes) (bytesOf (front (n - length (s .bytes)) ss)) (bytesOf (S (after (s .next) (front (n - length (s .bytes)) ss)))) ∙ ap (λ (b : List ℕ). s .bytes ++ b) (h .0),
+        append-assoc (s .bytes) (bytesOf F) (bytesOf (S (after (s .next) F))) ∙ ap (λ (b : List ℕ). s .bytes ++ b) (h .0),
         omega (arith, f .1, h .1),
       )
       go false h = (ap bytesOf e, omega arith)
@@ -65,7 +72,8 @@ module _ (S : ℕ → List Step) (left : (k : ℕ) → Left S k) where
       go (next s m l) =
           let b = l .short in
           let u = l .up in
-          let q : front n (S k) ≡ s ∷ front (n - length (s .bytes)) (S (s .next)) = ap (front n) (l .is) ∙ rw (le-leb (length (s .bytes)) n (omega arith)) in
+          let q : front n (S k) ≡ s ∷ front (n - length (s .bytes)) (S (s .next)) = ap (front n) (l .is)
+          ∙ rw (le-leb (length (s .bytes)) n (omega arith)) in
           let v = law (n - length (s .bytes)) (s .next) (S (s .next)) refl .1 in
           subst (λ (x : List Step). k < after k x) (sym q) (omega arith)
 
@@ -123,7 +131,8 @@ module _ (s : List ℕ) where
         let X = bytesOf (front (length o - 0) (dumpSteps s k)) in
         let h : length X ≤ length o - 0 = front-fits (length o - 0) (dumpSteps s k) in
         ap₂ take (c .written ∙ (let y : 0 + length X ≡ length X = omega arith in y)) (c .bytes ∙ sets-eq X o 0 (omega arith))
-        ∙ take-append-seam X (drop (0 + length X) o) ∙ ap (λ (n : ℕ). bytesOf (front n (dumpSteps s k))) (let z : length o - 0 ≡ length o = omega arith in z)
+        ∙ take-append-seam X (drop (0 + length X) o)
+        ∙ ap (λ (n : ℕ). bytesOf (front n (dumpSteps s k))) (let z : length o - 0 ≡ length o = omega arith in z)
 
     -- until it is done, no chunk goes further than 2^52 ..
     pub low-next : r .done ≡ false → r .next ≤ 2 ^ 52

@@ -1,4 +1,4 @@
--- Chunks line by line: where one ends, and that a line and a chunk behind it are a chunk.
+-- Chunks line by line: where one ends, and that a line and a chunk behind it are a chunk. Crate `dump_text`.
 -- Assumes nothing.
 use mathlib.Core.Path.{_≡_, sym, ap, ap₂, _∙_, subst}
 use mathlib.Core.Bool.{Bool, true, false}
@@ -32,12 +32,14 @@ module _ (S : ℕ → List Step) (k i : ℕ) (o : List ℕ) where
   chunk-end e = still (ap (front (length o - i)) e) true (ap none (sym e))
 
   -- no room for the next line
-  pub chunk-full : (s : Step) (ss : List Step) → S k ≡ s ∷ ss → length o - i < length (s .bytes) → Chunked S k i o o (record { written = i; next = k; done = false })
+  pub chunk-full : (s : Step) (ss : List Step) → S k ≡ s ∷ ss → length o - i < length (s .bytes)
+      → Chunked S k i o o (record { written = i; next = k; done = false })
   unfolding front
   chunk-full s ss e h = still (ap (front (length o - i)) e ∙ rw (lt-leb (length (s .bytes)) (length o - i) h)) false (ap none (sym e))
 
   -- a line, and the rest
-  pub chunk-more : {o₁ o′ : List ℕ} {n : ℕ} {c : Chunk} (s : Step) → S k ≡ s ∷ S (s .next) → i ≤ length o → length (s .bytes) ≤ length o - i → Put o i (s .bytes) o₁ n → Chunked S (s .next) n o₁ o′ c
+  pub chunk-more : {o₁ o′ : List ℕ} {n : ℕ} {c : Chunk} (s : Step) → S k ≡ s ∷ S (s .next) → i ≤ length o → length (s .bytes) ≤ length o - i
+      → Put o i (s .bytes) o₁ n → Chunked S (s .next) n o₁ o′ c
       → Chunked S k i o o′ c
   unfolding front bytesOf after
   chunk-more {o₁} {o′} {n} {c} s e l h p d =

@@ -1,4 +1,4 @@
-// The dump's text, made in chunks into a lent buffer. Added by the port.
+// The dump's text, made in chunks into a lent buffer. Added by the port. Crate `dump_text`.
 ghost use mathlib.Core.Path.{_≡_};
 ghost use Prim.Native.Nat.{_+_, _*_, _≤_, _<_, _^_};
 ghost use lib.ListN.{length};
@@ -69,7 +69,8 @@ fn runs_chunk(
 ) -> Chunk
     requires { ⌜ Open c (now l0) (now arena) (base .0) w ⌝ }
     requires { ⌜ (0 < at) × (filled ≤ length (now out)) ⌝ }
-    ensures { λ r. ⌜ Chunked (openSteps (lookupOf c (now (l0 .entry)) (now (arena .entry)) (base .0)) w) at filled (now (out .entry)) (now (out .exit)) r ⌝ }
+    ensures { λ r. ⌜ Chunked (openSteps (lookupOf c (now (l0 .entry)) (now (arena .entry)) (base .0)) w) at filled
+        (now (out .entry)) (now (out .exit)) r ⌝ }
 {
     let end = config::pow2(w.pps);
     let mut k = filled;
@@ -105,7 +106,8 @@ fn open_chunk(
     out: &mut [u8],
 ) -> Chunk
     requires { ⌜ Open c (now l0) (now arena) (base .0) w ⌝ }
-    ensures { λ r. ⌜ Chunked (openSteps (lookupOf c (now (l0 .entry)) (now (arena .entry)) (base .0)) w) at 0 (now (out .entry)) (now (out .exit)) r ⌝ }
+    ensures { λ r. ⌜ Chunked (openSteps (lookupOf c (now (l0 .entry)) (now (arena .entry)) (base .0)) w) at 0
+        (now (out .entry)) (now (out .exit)) r ⌝ }
 {
     if at != 0 {
         return runs_chunk(c, l0, arena, base, w, at, 0, out);
@@ -171,7 +173,8 @@ fn loaded_chunk(
     out: &mut [u8],
 ) -> Chunk
     requires { ⌜ (length (now l0) ≡ f .l0) × (length (now arena) ≡ f .arena) × (f .words + 8 * (f .l0 + f .arena) ≤ length (now s)) ⌝ }
-    ensures { λ r. ⌜ Chunked (tableSteps (f .config) (l0Words (now (s .entry)) f) (arenaWords (now (s .entry)) f) (f .base .0)) at 0 (now (out .entry)) (now (out .exit)) r ⌝ }
+    ensures { λ r. ⌜ Chunked (tableSteps (f .config) (l0Words (now (s .entry)) f) (arenaWords (now (s .entry)) f) (f .base .0)) at 0
+        (now (out .entry)) (now (out .exit)) r ⌝ }
 {
     let words = f.words;
     dump_image::copy_words(s, words, l0);

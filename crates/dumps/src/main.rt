@@ -1,5 +1,6 @@
-// The dump of many small images, each a file of data/ that images/make made of a text in images/. The buffer has room for one line or two, so
-// that each text comes in many chunks.
+// The dump of many small images, each a file of data/ that images/make made of a text in images/. The buffer has room for one line or two,
+// so that each text comes in many chunks. Crate `dumps`.
+
 // An image's name on a line, and its dump.
 fn show(path: &[u8]) {
     let f = os::open_read(path);

@@ -11,7 +11,10 @@ pack-mended-requires : tie.Need-pack-mended-requires
 pack-mended-requires c κs = rw (c .before .before .mend .ensures .answer) (mend-small _ _ _)
 
 returns : tie.Need-returns
-returns c = let m = c .before .before .before .mend .ensures in rw (← c .before .before .before .before .before .from-flags .ensures) record { answer = c .pack-mended .ensures ∙ ap mendedPacked (m .answer); arena = m .arena }
+returns c =
+    let m = c .before .before .before .mend .ensures in
+    rw (← c .before .before .before .before .before .from-flags .ensures)
+    record { answer = c .pack-mended .ensures ∙ ap mendedPacked (m .answer); arena = m .arena }
 
 pub gpt-mend-spec : {M : Type 1} → statement M
 gpt-mend-spec =

@@ -11,7 +11,10 @@ pack-changed-requires : tie.Need-pack-changed-requires
 pack-changed-requires c κs = rw (c .before .before .before .before .set .ensures .answer) (set-small _ _ _ _)
 
 returns : tie.Need-returns
-returns c = let m = c .before .before .before .before .before .set .ensures in rw (← c .before .before .before .before .before .before .before .before .from-flags .ensures) record { answer = c .pack-changed .ensures ∙ ap changedPacked (m .answer); arena = m .arena; log = m .log }
+returns c =
+    let m = c .before .before .before .before .before .set .ensures in
+    rw (← c .before .before .before .before .before .before .before .before .from-flags .ensures)
+    record { answer = c .pack-changed .ensures ∙ ap changedPacked (m .answer); arena = m .arena; log = m .log }
 
 pub gpt-set-spec : {M : Type 1} → statement M
 gpt-set-spec =

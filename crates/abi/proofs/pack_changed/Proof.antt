@@ -10,7 +10,8 @@ pack-tally-requires : tie.Need-pack-tally-requires
 pack-tally-requires c κs = let k = rw (c .before .a .given .1) at (c .before .before .before .pre) in (omega arith, k .records, k .stores)
 
 pack-tally-requires-2 : tie.Need-pack-tally-requires-2
-pack-tally-requires-2 c κs = let k = rw (c .before .a2 .given .1) at (c .before .before .before .pre) in (omega arith, k .records, k .stores)
+pack-tally-requires-2 c κs =
+    let k = rw (c .before .a2 .given .1) at (c .before .before .before .pre) in (omega arith, k .records, k .stores)
 
 returns : tie.Need-returns
 unfolding changedPacked

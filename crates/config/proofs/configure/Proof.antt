@@ -14,7 +14,8 @@ use Rattle.config.proofs.configure.Tie as tie
 
 -- ---- the cases where all three fields are listed, over a plain configuration
 
-module _ (c : Config) (p g l : ℕ) (x : ppsWidth (c .pps) ≡ Bits p) (y : pgsWidth (c .pgs) ≡ Bits g) (z : l0gptszWidth (c .l0gptsz) ≡ Bits l) where
+module _ (c : Config) (p g l : ℕ) (x : ppsWidth (c .pps) ≡ Bits p) (y : pgsWidth (c .pgs) ≡ Bits g)
+    (z : l0gptszWidth (c .l0gptsz) ≡ Bits l) where
   off : c .gpc ≡ false → GptNotInitialized ≡ configuredOf c
   unfolding configuredOf
   off e = rw (x, y, z, e)
@@ -33,11 +34,13 @@ module _ (c : Config) (p g l : ℕ) (x : ppsWidth (c .pps) ≡ Bits p) (y : pgsW
 pps-is : (c : tie.After-pps) → ppsWidth (c .before .before .before .args .c .pps) ≡ Bits (c .pps .given .0 .0)
 pps-is c = sym (c .before .before .pps-width .ensures) ∙ c .pps .given .1
 
-pgs-is : (c : tie.After-pgs) → pgsWidth (c .before .before .before .before .before .before .before .args .c .pgs) ≡ Bits (c .pgs .given .0 .0)
+pgs-is : (c : tie.After-pgs)
+    → pgsWidth (c .before .before .before .before .before .before .before .args .c .pgs) ≡ Bits (c .pgs .given .0 .0)
 pgs-is c = sym (c .before .before .pgs-width .ensures) ∙ c .pgs .given .1
 
 l0gptsz-is : (c : tie.After-l0gptsz)
-    → l0gptszWidth (c .before .before .before .before .before .before .before .before .before .before .before .args .c .l0gptsz) ≡ Bits (c .l0gptsz .given .0 .0)
+    → l0gptszWidth (c .before .before .before .before .before .before .before .before .before .before .before .args .c .l0gptsz)
+    ≡ Bits (c .l0gptsz .given .0 .0)
 l0gptsz-is c = sym (c .before .before .l0gptsz-width .ensures) ∙ c .l0gptsz .given .1
 
 -- from the place of the last width to those of the others
@@ -75,12 +78,14 @@ returns-4 c =
 returns-5 : tie.Need-returns-5
 returns-5 c =
     let l = c .before .before .before .before in
-    narrow (start l) _ _ _ (pps-is (to-pps (to-pgs l))) (pgs-is (to-pgs l)) (l0gptsz-is l) (not-false _ (c .before .if1 .left)) (c .if2 .taken)
+    narrow (start l) _ _ _ (pps-is (to-pps (to-pgs l))) (pgs-is (to-pgs l)) (l0gptsz-is l) (not-false _ (c .before .if1 .left))
+    (c .if2 .taken)
 
 returns-6 : tie.Need-returns-6
 returns-6 c =
     let l = c .before .before .before .before in
-    taken (start l) _ _ _ (pps-is (to-pps (to-pgs l))) (pgs-is (to-pgs l)) (l0gptsz-is l) (not-false _ (c .before .if1 .left)) (c .if2 .left)
+    taken (start l) _ _ _ (pps-is (to-pps (to-pgs l))) (pgs-is (to-pgs l)) (l0gptsz-is l) (not-false _ (c .before .if1 .left))
+    (c .if2 .left)
 
 pub configure-spec : {M : Type 1} → statement M
 configure-spec =

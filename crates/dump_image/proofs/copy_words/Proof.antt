@@ -23,7 +23,9 @@ number-requires : tie.Need-number-requires Inv-loop μ-loop
 number-requires c κs = (omega arith, omega arith)
 
 loop-again : tie.Need-loop-again Inv-loop μ-loop
-loop-again c = let l = c .before .before in (omega arith, words-more _ _ _ _ _ (omega arith) (l .loop .inv .1) (c .number .ensures .0), simp length-set (l .loop .inv .2))
+loop-again c =
+    let l = c .before .before in
+    (omega arith, words-more _ _ _ _ _ (omega arith) (l .loop .inv .1) (c .number .ensures .0), simp length-set (l .loop .inv .2))
 
 same-length : tie.Need-same-length Inv-loop μ-loop
 same-length c = c .before .loop .inv .2

@@ -24,10 +24,14 @@ mul-v c = let h = room {b = 0} (c .before .loop .inv .2) (c .loop-test .taken) (
 
 -- the byte read is one
 byte : (c : tie.After-wide Inv-loop μ-loop) → c .wide .result < 256
-byte c = let l = c .before .before .before in omega (arith, c .wide .ensures, c .before .shared-slice-known2 .given (l .before .before .args .at + l .loop .k))
+byte c =
+    let l = c .before .before .before in
+    omega (arith, c .wide .ensures, c .before .shared-slice-known2 .given (l .before .before .args .at + l .loop .k))
 
 add-v : tie.Need-add-v Inv-loop μ-loop
-add-v c = let l = c .before .before .before in let h = room (l .loop .inv .2) (c .before .before .loop-test .taken) (l .before .before .pre .1) (byte c) in omega arith
+add-v c =
+    let l = c .before .before .before in
+    let h = room (l .loop .inv .2) (c .before .before .loop-test .taken) (l .before .before .pre .1) (byte c) in omega arith
 
 loop-again : tie.Need-loop-again Inv-loop μ-loop
 loop-again c = let l = c .before .before .before in

@@ -18,12 +18,14 @@ returns-3 c =
 returns-4 : tie.Need-returns-4
 returns-4 c =
     let e = c .before .before .before .before in
-    rw (le-ltb _ _ (e .before .before .if1 .left), le-ltb _ _ (e .if2 .left), le-ltb _ _ (c .before .before .if3 .left), ne-eqb _ _ (c .if4 .taken))
+    let d = e .before .before in
+    rw (le-ltb _ _ (d .if1 .left), le-ltb _ _ (e .if2 .left), le-ltb _ _ (c .before .before .if3 .left), ne-eqb _ _ (c .if4 .taken))
 
 returns-5 : tie.Need-returns-5
 returns-5 c =
     let e = c .before .before .before .before in
-    rw (le-ltb _ _ (e .before .before .if1 .left), le-ltb _ _ (e .if2 .left), le-ltb _ _ (c .before .before .if3 .left), eq-eqb _ _ (c .if4 .left))
+    let d = e .before .before in
+    rw (le-ltb _ _ (d .if1 .left), le-ltb _ _ (e .if2 .left), le-ltb _ _ (c .before .before .if3 .left), eq-eqb _ _ (c .if4 .left))
 
 pub verdict-spec : {M : Type 1} → statement M
 verdict-spec = tie.close (tie.spec returns returns-2 returns-3 (λ c. search needs) returns-4 returns-5)

@@ -1,7 +1,7 @@
 -- `dump_lines::dec_len` meets its contract. The loop keeps that the digits left and those counted are all.
 -- Assumes nothing.
-use mathlib.Core.Path.{_≡_, refl, ap}
-use Prim.Native.Nat.{_+_, _^_, _<_}
+use mathlib.Core.Path.{_≡_, ap}
+use Prim.Native.Nat.{_+_}
 use native.Mathlib.Omega.{arith}
 use lib.ListN.{length}
 use Rattle.dump_lines.specs.Digits.{dec}

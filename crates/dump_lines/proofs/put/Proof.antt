@@ -20,7 +20,8 @@ loop-holds : tie.Need-loop-holds Inv-loop μ-loop
 loop-holds c = (omega arith, rw add-zero, refl)
 
 loop-again : tie.Need-loop-again Inv-loop μ-loop
-loop-again c = let l = c .before .before .loop in (omega arith, copy-more _ _ _ _ (l .k) (omega arith) (l .inv .1), simp length-set (l .inv .2))
+loop-again c =
+    let l = c .before .before .loop in (omega arith, copy-more _ _ _ _ (l .k) (omega arith) (l .inv .1), simp length-set (l .inv .2))
 
 same-length : tie.Need-same-length Inv-loop μ-loop
 same-length c = c .before .loop .inv .2

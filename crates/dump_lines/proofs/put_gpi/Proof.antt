@@ -7,7 +7,10 @@ use Rattle.dump_lines.proofs.put_gpi.Statement.{statement}
 use Rattle.dump_lines.proofs.put_gpi.Tie as tie
 
 returns : tie.Need-returns
-returns c = let g = c .before .before .before .before .before .before .before .gpi-part in part-put names (gpiName (c .before .before .before .before .before .before .before .before .before .args .g)) (g .result .at) (g .result .len) (g .ensures .2) (c .before .before .put .ensures)
+returns c =
+    let g = c .before .before .before .before .before .before .before .gpi-part in
+    part-put names (gpiName (c .before .before .before .before .before .before .before .before .before .args .g)) (g .result .at)
+    (g .result .len) (g .ensures .2) (c .before .before .put .ensures)
 
 pub put-gpi-spec : {M : Type 1} → statement M
 put-gpi-spec =

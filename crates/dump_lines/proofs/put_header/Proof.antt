@@ -55,7 +55,8 @@ put-byte-requires : tie.Need-put-byte-requires
 put-byte-requires c κs =
     let q = c .before .before .before in
     let p = q .before .before .before .before .before in
-    room-next (R (p .before .before .before .before .before .before .before .before .before .args .w)) feed (q .put-numbered3 .ensures) (room p)
+    room-next (R (p .before .before .before .before .before .before .before .before .before .args .w)) feed (q .put-numbered3 .ensures)
+    (room p)
 
 returns : tie.Need-returns
 unfolding header

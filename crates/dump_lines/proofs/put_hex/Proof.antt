@@ -11,7 +11,8 @@ use Rattle.dump_lines.proofs.put_hex.Statement.{statement}
 use Rattle.dump_lines.proofs.put_hex.Tie as tie
 
 abbrev Inv-loop : tie.InvT-loop
-Inv-loop out₀ at n x left₀ i₀ out left i = (left ≤ n) × (i + left ≡ at + n) × (sets out₀ at (hex n x) ≡ sets out i (hex left x)) × (length out ≡ length out₀)
+Inv-loop out₀ at n x left₀ i₀ out left i =
+    (left ≤ n) × (i + left ≡ at + n) × (sets out₀ at (hex n x) ≡ sets out i (hex left x)) × (length out ≡ length out₀)
 
 abbrev μ-loop : tie.MeasureT-loop
 μ-loop out₀ at n x left₀ i₀ out left i = left
@@ -20,7 +21,9 @@ loop-holds : tie.Need-loop-holds Inv-loop μ-loop
 loop-holds c = (omega arith, refl, refl, refl)
 
 loop-again : tie.Need-loop-again Inv-loop μ-loop
-loop-again c = let l = c .before .before .loop in (omega arith, omega arith, hex-more _ _ _ _ _ _ _ (omega arith) (c .digit .ensures) (l .inv .2), simp length-set (l .inv .3))
+loop-again c =
+    let l = c .before .before .loop in
+    (omega arith, omega arith, hex-more _ _ _ _ _ _ _ (omega arith) (c .digit .ensures) (l .inv .2), simp length-set (l .inv .3))
 
 same-length : tie.Need-same-length Inv-loop μ-loop
 same-length c = c .before .loop .inv .3

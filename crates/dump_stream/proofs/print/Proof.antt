@@ -16,7 +16,8 @@ abbrev μ-loop : tie.MeasureT-loop
 μ-loop file image out₀ at₀ out at = 2 ^ 52 - at
 
 -- the buffer keeps its length, and the bytes written are in it
-kept : (c : tie.After-dump-chunk Inv-loop μ-loop) → length (c .dump-chunk .last .1 .1 .0) ≡ length (c .before .before .before .before .before .args .out .now)
+kept : (c : tie.After-dump-chunk Inv-loop μ-loop)
+    → length (c .dump-chunk .last .1 .1 .0) ≡ length (c .before .before .before .before .before .args .out .now)
 kept c = c .dump-chunk .kept .1 .1 .0 ∙ c .before .before .loop .inv
 
 inside : (c : tie.After-dump-chunk Inv-loop μ-loop) → c .dump-chunk .result .written ≤ length (c .dump-chunk .last .1 .1 .0)
@@ -41,7 +42,10 @@ same-length-3 : tie.Need-same-length-3 Inv-loop μ-loop
 same-length-3 c = kept (c .before .before .before .before .before .before .before .before)
 
 loop-less : tie.Need-loop-less Inv-loop μ-loop
-loop-less c = let l = low-next _ _ _ _ _ (c .before .before .before .before .before .before .before .before .dump-chunk .ensures) (c .before .before .if2 .left) in omega arith
+loop-less c =
+    let l = low-next _ _ _ _ _ (c .before .before .before .before .before .before .before .before .dump-chunk .ensures)
+    (c .before .before .if2 .left) in
+    omega arith
 
 loop-again : tie.Need-loop-again Inv-loop μ-loop
 loop-again c = kept (c .before .before .before .before .before .before .before .before)

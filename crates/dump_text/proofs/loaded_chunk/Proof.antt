@@ -13,14 +13,14 @@ use Rattle.dump_text.proofs.loaded_chunk.Tie as tie
 
 returns : tie.Need-returns
 returns c =
-    let a = c .before .before .before .before .before .before .before .before .before .before .before .before .before .before .before .before .before .before .before .before .args in
-    let h = c .before .before .before .before .before .before .before .before .before .before .before .before .before .before .before .before .before .before .before .before .pre in
-    let s = a .s .now in
-    let k = c .before .before .before .before .before .before .before .before .before .before .before .before .before .before .copy-words in
-    let m = c .before .before .before .before .before .before .before .before .before .before .copy-words2 in
+    let m = c .before .before .before .before .before .before .before .before .before .before in
+    let k = m .before .before .before .before in
+    let s = k .before .before .before .before .before .before in
+    let a = s .args in
     same-steps (ap₂ (λ (L A : List ℕ). tableSteps (a .f .config) L A (a .f .base .0))
-    (k .ensures ∙ ap (wordsFrom s (a .f .words)) (h .0))
-    (m .ensures ∙ ap₂ (wordsFrom s) (let z = k .kept .0 in let e = h .0 in omega arith) (h .1)))
+    (k .copy-words .ensures ∙ ap (wordsFrom (a .s .now) (a .f .words)) (s .pre .0))
+    (m .copy-words2 .ensures
+    ∙ ap₂ (wordsFrom (a .s .now)) (let z = k .copy-words .kept .0 in let e = s .pre .0 in omega arith) (s .pre .1)))
     (c .before .before .table-chunk .ensures)
 
 pub loaded-chunk-spec : {M : Type 1} → statement M

@@ -10,10 +10,18 @@ use Rattle.dump_text.proofs.open_chunk.Statement.{statement}
 use Rattle.dump_text.proofs.open_chunk.Tie as tie
 
 returns-2 : tie.Need-returns-2
-returns-2 c = let e = c .before .header-len .ensures in chunk-full _ _ _ _ (step (header (c .before .before .before .before .before .before .args .w)) 1) _ (header-here _ _ _ (c .before .before .if1 .left)) (omega arith)
+returns-2 c =
+    let e = c .before .header-len .ensures in
+    chunk-full _ _ _ _ (step (header (c .before .before .before .before .before .before .args .w)) 1) _
+    (header-here _ _ _ (c .before .before .if1 .left)) (omega arith)
 
 returns-3 : tie.Need-returns-3
-returns-3 c = let e = c .before .before .before .before .before .before .before .before .before .header-len .ensures in chunk-more _ _ _ _ (step (header (c .before .before .before .before .before .before .before .before .before .before .before .before .before .before .args .w)) 1) (header-here _ _ _ (c .before .before .before .before .before .before .before .before .before .before .if1 .left)) (omega arith) (omega arith) (c .before .before .before .before .before .before .put-header .ensures) (c .before .before .runs-chunk2 .ensures)
+returns-3 c =
+    let p = c .before .before .before .before .before .before in
+    let i = p .before .before .before .before in
+    let e = p .before .before .before .header-len .ensures in
+    chunk-more _ _ _ _ (step (header (i .before .before .before .before .args .w)) 1) (header-here _ _ _ (i .if1 .left)) (omega arith)
+    (omega arith) (p .put-header .ensures) (c .before .before .runs-chunk2 .ensures)
 
 pub open-chunk-spec : {M : Type 1} → statement M
 open-chunk-spec =

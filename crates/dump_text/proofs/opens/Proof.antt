@@ -21,13 +21,14 @@ returns : tie.Need-returns
 returns c = rw (sym (c .before .before .before .before .configure .ensures) ∙ c .before .before .w .given .1, eq-eqb _ _ (c .if1 .taken))
 
 returns-2 : tie.Need-returns-2
-returns-2 c = rw (sym (c .before .before .before .before .before .configure .ensures) ∙ c .before .before .before .w .given .1, shut _ (c .before .if1 .left) (omega (arith, c .if2 .taken)))
-
-enum-told : tie.Need-enum-told
-enum-told c = search needs
+returns-2 c =
+    let w = c .before .before .before in
+    rw (sym (w .before .before .configure .ensures) ∙ w .w .given .1, shut _ (c .before .if1 .left) (omega (arith, c .if2 .taken)))
 
 returns-3 : tie.Need-returns-3
-returns-3 c = rw (sym (c .before .before .before .before .before .configure .ensures) ∙ c .before .before .before .w .given .1, shown _ (c .before .if1 .left) (omega (arith, c .if2 .left)))
+returns-3 c =
+    let w = c .before .before .before in
+    rw (sym (w .before .before .configure .ensures) ∙ w .w .given .1, shown _ (c .before .if1 .left) (omega (arith, c .if2 .left)))
 
 returns-4 : tie.Need-returns-4
 returns-4 c = rw (sym (c .before .before .configure .ensures) ∙ c .enum-told .given .1)
@@ -43,7 +44,7 @@ opens-spec =
     (λ c. search needs)
     returns
     returns-2
-    enum-told
+    (λ c. search needs)
     (λ c. search needs)
     returns-3
     returns-4

@@ -10,20 +10,28 @@ use Rattle.dump_text.proofs.table_chunk.Statement.{statement}
 use Rattle.dump_text.proofs.table_chunk.Tie as tie
 
 -- the number of address 0's answer
-first : (c : tie.After-number) → let a = c .before .before .before .before .before .args in c .number .result ≡ firstNumber (a .c) (a .l0 .now) (a .arena .now) (a .base .0)
+first : (c : tie.After-number)
+    → let a = c .before .before .before .before .before .args in
+    c .number .result ≡ firstNumber (a .c) (a .l0 .now) (a .arena .now) (a .base .0)
 first c = c .number .ensures .0 ∙ ap lookedNumber (c .before .lookup .ensures)
 
 open-chunk-requires : tie.Need-open-chunk-requires
-open-chunk-requires c κs = opened _ _ _ _ _ (shown _ _ _ _ (first (c .before .before .before .before .before)) (sym (c .before .before .before .before .opens .ensures) ∙ c .before .before .w .given .1))
-
-enum-told : tie.Need-enum-told
-enum-told c = search needs
+open-chunk-requires c κs =
+    let w = c .before .before in
+    opened _ _ _ _ _ (shown _ _ _ _ (first (w .before .before .before)) (sym (w .before .before .opens .ensures) ∙ w .w .given .1))
 
 returns : tie.Need-returns
-returns c = same-steps (shown-steps _ _ _ _ (first (c .before .before .before .before .before .before .before .before)) (sym (c .before .before .before .before .before .before .before .opens .ensures) ∙ c .before .before .before .before .before .w .given .1)) (c .before .before .open-chunk .ensures)
+returns c =
+    let w = c .before .before .before .before .before in
+    same-steps (shown-steps _ _ _ _ (first (w .before .before .before)) (sym (w .before .before .opens .ensures) ∙ w .w .given .1))
+    (c .before .before .open-chunk .ensures)
 
 returns-2 : tie.Need-returns-2
-returns-2 c = same-steps (refused-steps _ _ _ _ (first (c .before .before .before .before .before .before .before .before)) (sym (c .before .before .before .before .before .before .before .opens .ensures) ∙ c .before .before .before .before .before .enum-told .given .1)) (c .before .before .told-chunk .ensures)
+returns-2 c =
+    let e = c .before .before .before .before .before in
+    same-steps
+    (refused-steps _ _ _ _ (first (e .before .before .before)) (sym (e .before .before .opens .ensures) ∙ e .enum-told .given .1))
+    (c .before .before .told-chunk .ensures)
 
 pub table-chunk-spec : {M : Type 1} → statement M
 table-chunk-spec =
@@ -34,7 +42,7 @@ table-chunk-spec =
     (λ c κs. search needs)
     (λ c. search needs)
     open-chunk-requires
-    enum-told
+    (λ c. search needs)
     (λ c. search needs)
     (λ c κs. search needs)
     (λ c. search needs)
