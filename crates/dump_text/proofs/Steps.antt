@@ -1,5 +1,4 @@
 -- What is left of a text, as a fact about the definitions: which line comes next, and that the places rise. Crate `dump_text`.
--- Assumes nothing.
 use mathlib.Core.Path.{_≡_, refl, sym, ap, _∙_}
 use mathlib.Core.Bool.{Bool, true, false, cond}
 use mathlib.Core.List.{List, [], _∷_, _++_, append-nil, map}
@@ -20,6 +19,7 @@ use Rattle.config.proofs.Bounds.{listed-widths}
 use Rattle.resolve.proofs.Numbers.{refusal-number}
 use Rattle.gpt.specs.declared.Looked.{Looked}
 use Rattle.gpt.specs.declared.Looked.the-variants.{Ok as Told, Refused as Not}
+use Rattle.resolve.specs.Lent.{Lent}
 use Rattle.gpt.specs.Lookup.{lookedNumber, lookupOf}
 use Rattle.dump_image.specs.declared.Fault.{Fault}
 use Rattle.dump_image.specs.declared.Fault.the-variants.{Version, Short, Counts, Length}
@@ -34,7 +34,7 @@ use Rattle.dump_runs.proofs.Walk.{some-run, none-left}
 use Rattle.dump_text.specs.declared.Opening.{Opening}
 use Rattle.dump_text.specs.declared.Opening.the-variants.{Shown, Refused}
 use Rattle.dump_text.specs.Text.{lines, shuts, openingBy, openingOf, firstNumber}
-use Rattle.dump_text.specs.Text.{refusedLine, badLine, shownText, tableText, imageText, dumpText}
+use Rattle.dump_text.specs.Text.{refusedLine, badLine, shownText, tableText, lentBy, imageText, dumpText}
 use Rattle.dump_text.specs.Chunks.{Step, step, bytesOf, oneStep, runStep, runSteps}
 use Rattle.dump_text.specs.Chunks.{openSteps, shownSteps, tableSteps, imageSteps, dumpSteps, none}
 
@@ -123,22 +123,22 @@ looked-small (Not r) = let h = refusal-number r .1 in omega arith
 fault-small : (f : Fault) → faultNumber f < 100
 fault-small f = elim f [ Version ↦ lit< tt | Short ↦ lit< tt | Counts ↦ lit< tt | Length ↦ lit< tt ]
 
-module _ (c : Config) (L A : List ℕ) (b : ℕ) (k : ℕ) where
-  shut-left : Left (shownSteps c L A b Refused) k
+module _ (q : Lent) (k : ℕ) where
+  shut-left : Left (shownSteps q Refused) k
   shut-left =
-      one-left (refusedLine (firstNumber c L A b))
-      (short-told (ascii "refused ") (firstNumber c L A b) (looked-small (lookupOf c L A b 0)) (omega arith)) k
+      one-left (refusedLine (firstNumber q))
+      (short-told (ascii "refused ") (firstNumber q) (looked-small (lookupOf q 0)) (omega arith)) k
 
-  pub table-left : Left (tableSteps c L A b) k
+  pub table-left : Left (tableSteps q) k
   unfolding tableSteps
-  table-left = go (configuredOf c) refl
+  table-left = go (configuredOf (q .config)) refl
     where
-      shown : (w : Widths) → Listed w → (s : Bool) → Left (shownSteps c L A b (cond s Refused (Shown w))) k
+      shown : (w : Widths) → Listed w → (s : Bool) → Left (shownSteps q (cond s Refused (Shown w))) k
       shown w m true = shut-left
-      shown w m false = open-left (lookupOf c L A b) w m k
+      shown w m false = open-left (lookupOf q) w m k
 
-      go : (t : Configured) → configuredOf c ≡ t → Left (shownSteps c L A b (openingBy t (firstNumber c L A b))) k
-      go (Ok w) e = shown w (listed-widths c w e) (shuts (firstNumber c L A b))
+      go : (t : Configured) → configuredOf (q .config) ≡ t → Left (shownSteps q (openingBy t (firstNumber q))) k
+      go (Ok w) e = shown w (listed-widths (q .config) w e) (shuts (firstNumber q))
       go InvalidConfiguration e = shut-left
       go GptNotInitialized e = shut-left
 
@@ -148,7 +148,7 @@ dump-left s k = go (readOf s)
   where
     go : (r : Read) → Left (imageSteps s r) k
     go (Bad f) = one-left (badLine (faultNumber f)) (short-told (ascii "bad image ") (faultNumber f) (fault-small f) (omega arith)) k
-    go (Whole f) = table-left (f .config) (l0Words s f) (arenaWords s f) (f .base .0) k
+    go (Whole f) = table-left (lentBy s f) k
 
 -- ---- every text has a first line
 
@@ -156,15 +156,14 @@ pub some-first : (s : List ℕ) → none (dumpSteps s 0) ≡ false
 unfolding dumpSteps tableSteps
 some-first s = go (readOf s)
   where
-    shown : (c : Config) (L A : List ℕ) (b : ℕ) (o : Opening) → none (shownSteps c L A b o 0) ≡ false
-    shown c L A b (Shown w) = refl
-    shown c L A b Refused = refl
+    shown : (q : Lent) (o : Opening) → none (shownSteps q o 0) ≡ false
+    shown q (Shown w) = refl
+    shown q Refused = refl
 
     go : (r : Read) → none (imageSteps s r 0) ≡ false
     go (Bad f) = refl
     go (Whole f) =
-        shown (f .config) (l0Words s f) (arenaWords s f) (f .base .0)
-        (openingOf (f .config) (firstNumber (f .config) (l0Words s f) (arenaWords s f) (f .base .0)))
+        shown (lentBy s f) (openingOf (f .config) (firstNumber (lentBy s f)))
 
 -- ---- the steps from the start are the text
 
@@ -173,15 +172,15 @@ unfolding bytesOf lines
 run-lines [] = refl
 run-lines (r ∷ rs) = ap (λ (l : List ℕ). line r ++ l) (run-lines rs)
 
-table-text : (c : Config) (L A : List ℕ) (b : ℕ) → bytesOf (tableSteps c L A b 0) ≡ tableText c L A b
+table-text : (q : Lent) → bytesOf (tableSteps q 0) ≡ tableText q
 unfolding tableSteps tableText bytesOf
-table-text c L A b = go (openingOf c (firstNumber c L A b))
+table-text q = go (openingOf (q .config) (firstNumber q))
   where
-    go : (o : Opening) → bytesOf (shownSteps c L A b o 0) ≡ shownText c L A b o
+    go : (o : Opening) → bytesOf (shownSteps q o 0) ≡ shownText q o
     go (Shown w) =
         ap (λ (l : List ℕ). header w ++ l)
-        (run-lines (from (lookupOf c L A b) 0 (total w - 0))
-        ∙ ap (λ (n : ℕ). lines (from (lookupOf c L A b) 0 n)) (let z : total w - 0 ≡ total w = omega arith in z))
+        (run-lines (from (lookupOf q) 0 (total w - 0))
+        ∙ ap (λ (n : ℕ). lines (from (lookupOf q) 0 n)) (let z : total w - 0 ≡ total w = omega arith in z))
     go Refused = append-nil _
 
 pub dump-text : (s : List ℕ) → bytesOf (dumpSteps s 0) ≡ dumpText s
@@ -190,4 +189,4 @@ dump-text s = go (readOf s)
   where
     go : (r : Read) → bytesOf (imageSteps s r 0) ≡ imageText s r
     go (Bad f) = append-nil _
-    go (Whole f) = table-text (f .config) (l0Words s f) (arenaWords s f) (f .base .0)
+    go (Whole f) = table-text (lentBy s f)

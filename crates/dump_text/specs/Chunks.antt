@@ -8,20 +8,20 @@ use Prim.Native.Nat.{ℕ, _+_, _-_}
 use lib.Dec.{eqb, leb}
 use lib.ListN.{length}
 use lib.Seq.{sets}
-use Rattle.config.specs.declared.Config.{Config}
 use Rattle.config.specs.declared.Widths.{Widths}
 use Rattle.gpt.specs.declared.Looked.{Looked}
+use Rattle.resolve.specs.Lent.{Lent}
 use Rattle.gpt.specs.Lookup.{lookupOf}
 use Rattle.dump_image.specs.declared.Read.{Read}
 use Rattle.dump_image.specs.declared.Read.the-variants.{Bad, Whole}
-use Rattle.dump_image.specs.Image.{readOf, faultNumber, l0Words, arenaWords}
+use Rattle.dump_image.specs.Image.{readOf, faultNumber}
 use Rattle.dump_lines.specs.declared.Run.{Run}
 use Rattle.dump_lines.specs.Lines.{line, header}
 use Rattle.dump_runs.specs.Runs.{from, total}
 use Rattle.dump_text.specs.declared.Chunk.{Chunk}
 use Rattle.dump_text.specs.declared.Opening.{Opening}
 use Rattle.dump_text.specs.declared.Opening.the-variants.{Shown, Refused}
-use Rattle.dump_text.specs.Text.{openingOf, firstNumber, refusedLine, badLine}
+use Rattle.dump_text.specs.Text.{openingOf, firstNumber, refusedLine, badLine, lentBy}
 
 -- a line, and the place behind it
 pub record Step : Type 0 where
@@ -52,16 +52,16 @@ runSteps f end a = map runStep (from f a (end - a))
 abbrev pub openSteps : (ℕ → Looked) → Widths → ℕ → List Step
 openSteps f w k = cond (eqb k 0) (step (header w) 1 ∷ runSteps f (total w) 0) (runSteps f (total w) (k - 1))
 
-abbrev pub shownSteps : Config → List ℕ → List ℕ → ℕ → Opening → ℕ → List Step
-shownSteps c L A b (Shown w) = openSteps (lookupOf c L A b) w
-shownSteps c L A b Refused = oneStep (refusedLine (firstNumber c L A b))
+abbrev pub shownSteps : Lent → Opening → ℕ → List Step
+shownSteps q (Shown w) = openSteps (lookupOf q) w
+shownSteps q Refused = oneStep (refusedLine (firstNumber q))
 
-unfoldable pub tableSteps : Config → List ℕ → List ℕ → ℕ → ℕ → List Step
-tableSteps c L A b = shownSteps c L A b (openingOf c (firstNumber c L A b))
+unfoldable pub tableSteps : Lent → ℕ → List Step
+tableSteps q = shownSteps q (openingOf (q .config) (firstNumber q))
 
 abbrev pub imageSteps : List ℕ → Read → ℕ → List Step
 imageSteps s (Bad f) = oneStep (badLine (faultNumber f))
-imageSteps s (Whole f) = tableSteps (f .config) (l0Words s f) (arenaWords s f) (f .base .0)
+imageSteps s (Whole f) = tableSteps (lentBy s f)
 
 unfoldable pub dumpSteps : List ℕ → ℕ → List Step
 dumpSteps s = imageSteps s (readOf s)

@@ -8,7 +8,9 @@ use Rattle.config.specs.declared.Config.{Config}
 use Rattle.config.specs.declared.Configured.{Configured}
 use Rattle.config.specs.declared.Configured.the-variants.{Ok, InvalidConfiguration, GptNotInitialized}
 use Rattle.config.specs.Fields.{configuredOf}
+use Rattle.resolve.specs.Lent.{Lent, lent}
 use Rattle.gpt.specs.Lookup.{lookedNumber, lookupOf}
+use Rattle.dump_image.specs.declared.Image.{Image}
 use Rattle.dump_image.specs.declared.Read.{Read}
 use Rattle.dump_image.specs.declared.Read.the-variants.{Bad, Whole}
 use Rattle.dump_image.specs.Image.{readOf, faultNumber, l0Words, arenaWords}
@@ -35,29 +37,33 @@ abbrev pub openingOf : Config → ℕ → Opening
 openingOf c n = openingBy (configuredOf c) n
 
 -- the number that a lookup of address 0 answers
-abbrev pub firstNumber : Config → List ℕ → List ℕ → ℕ → ℕ
-firstNumber c L A b = lookedNumber (lookupOf c L A b 0)
+abbrev pub firstNumber : Lent → ℕ
+firstNumber q = lookedNumber (lookupOf q 0)
 
 -- "print `refused N` alone"
 abbrev pub refusedLine : ℕ → List ℕ
 refusedLine n = told (ascii "refused ") n
 
 -- the header, then one line for each run of equal answers, from address 0 to the last one below 2^PPS
-abbrev pub shownText : Config → List ℕ → List ℕ → ℕ → Opening → List ℕ
-shownText c L A b (Shown w) = header w ++ lines (from (lookupOf c L A b) 0 (total w))
-shownText c L A b Refused = refusedLine (firstNumber c L A b)
+abbrev pub shownText : Lent → Opening → List ℕ
+shownText q (Shown w) = header w ++ lines (from (lookupOf q) 0 (total w))
+shownText q Refused = refusedLine (firstNumber q)
 
--- configuration, L0 words, arena and its base
-unfoldable pub tableText : Config → List ℕ → List ℕ → ℕ → List ℕ
-tableText c L A b = shownText c L A b (openingOf c (firstNumber c L A b))
+-- of what is lent
+unfoldable pub tableText : Lent → List ℕ
+tableText q = shownText q (openingOf (q .config) (firstNumber q))
 
 -- "`bad image 1` version or empty input, .."
 abbrev pub badLine : ℕ → List ℕ
 badLine n = told (ascii "bad image ") n
 
+-- what the image f of the bytes s lends
+abbrev pub lentBy : List ℕ → Image → Lent
+lentBy s f = lent (f .config) (l0Words s f) (arenaWords s f) (f .base .0)
+
 abbrev pub imageText : List ℕ → Read → List ℕ
 imageText s (Bad f) = badLine (faultNumber f)
-imageText s (Whole f) = tableText (f .config) (l0Words s f) (arenaWords s f) (f .base .0)
+imageText s (Whole f) = tableText (lentBy s f)
 
 -- what is printed for the bytes on standard input
 unfoldable pub dumpText : List ℕ → List ℕ

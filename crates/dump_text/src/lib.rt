@@ -2,11 +2,11 @@
 ghost use mathlib.Core.Path.{_≡_};
 ghost use Prim.Native.Nat.{_+_, _*_, _≤_, _<_, _^_};
 ghost use lib.ListN.{length};
+ghost use Rattle.resolve.specs.Lent.{lent};
 ghost use Rattle.gpt.specs.Lookup.{lookedNumber, lookupOf};
-ghost use Rattle.dump_image.specs.Image.{l0Words, arenaWords};
 ghost use Rattle.dump_lines.specs.Lines.{told};
 ghost use Rattle.dump_runs.specs.Runs.{Open};
-ghost use Rattle.dump_text.specs.Text.{openingOf};
+ghost use Rattle.dump_text.specs.Text.{openingOf, lentBy};
 ghost use Rattle.dump_text.specs.Chunks.{oneStep, openSteps, tableSteps, dumpSteps, Chunked};
 use config::Config;
 use config::Configured;
@@ -67,9 +67,9 @@ fn runs_chunk(
     filled: usize,
     out: &mut [u8],
 ) -> Chunk
-    requires { ⌜ Open c (now l0) (now arena) (base .0) w ⌝ }
+    requires { ⌜ Open (lent c (now l0) (now arena) (base .0)) w ⌝ }
     requires { ⌜ (0 < at) × (filled ≤ length (now out)) ⌝ }
-    ensures { λ r. ⌜ Chunked (openSteps (lookupOf c (now (l0 .entry)) (now (arena .entry)) (base .0)) w) at filled
+    ensures { λ r. ⌜ Chunked (openSteps (lookupOf (lent c (now (l0 .entry)) (now (arena .entry)) (base .0))) w) at filled
         (now (out .entry)) (now (out .exit)) r ⌝ }
 {
     let end = config::pow2(w.pps);
@@ -105,8 +105,8 @@ fn open_chunk(
     at: u64,
     out: &mut [u8],
 ) -> Chunk
-    requires { ⌜ Open c (now l0) (now arena) (base .0) w ⌝ }
-    ensures { λ r. ⌜ Chunked (openSteps (lookupOf c (now (l0 .entry)) (now (arena .entry)) (base .0)) w) at 0
+    requires { ⌜ Open (lent c (now l0) (now arena) (base .0)) w ⌝ }
+    ensures { λ r. ⌜ Chunked (openSteps (lookupOf (lent c (now (l0 .entry)) (now (arena .entry)) (base .0))) w) at 0
         (now (out .entry)) (now (out .exit)) r ⌝ }
 {
     if at != 0 {
@@ -154,7 +154,7 @@ fn opens(c: Config, n: u64) -> Opening
 
 // The text of tables that a caller has, from a place on, as much of it as fits.
 pub fn table_chunk(c: Config, l0: &[u64], arena: &[u64], base: PA, at: u64, out: &mut [u8]) -> Chunk
-    ensures { λ r. ⌜ Chunked (tableSteps c (now (l0 .entry)) (now (arena .entry)) (base .0)) at 0 (now (out .entry)) (now (out .exit)) r ⌝ }
+    ensures { λ r. ⌜ Chunked (tableSteps (lent c (now (l0 .entry)) (now (arena .entry)) (base .0))) at 0 (now (out .entry)) (now (out .exit)) r ⌝ }
 {
     let n = number(gpt::lookup(c, l0, arena, base, PA(0)));
     match opens(c, n) {
@@ -173,7 +173,7 @@ fn loaded_chunk(
     out: &mut [u8],
 ) -> Chunk
     requires { ⌜ (length (now l0) ≡ f .l0) × (length (now arena) ≡ f .arena) × (f .words + 8 * (f .l0 + f .arena) ≤ length (now s)) ⌝ }
-    ensures { λ r. ⌜ Chunked (tableSteps (f .config) (l0Words (now (s .entry)) f) (arenaWords (now (s .entry)) f) (f .base .0)) at 0
+    ensures { λ r. ⌜ Chunked (tableSteps (lentBy (now (s .entry)) f)) at 0
         (now (out .entry)) (now (out .exit)) r ⌝ }
 {
     let words = f.words;

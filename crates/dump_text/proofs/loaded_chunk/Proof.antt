@@ -4,6 +4,7 @@ use mathlib.Core.Path.{ap, ap₂, _∙_}
 use mathlib.Core.List.{List}
 use native.Mathlib.Omega.{arith}
 use Prim.Native.Nat.{ℕ}
+use Rattle.resolve.specs.Lent.{lent}
 use Rattle.dump_image.specs.Image.{wordsFrom}
 use Rattle.dump_text.specs.Chunks.{tableSteps}
 use Rattle.dump_text.proofs.Walk.{same-steps}
@@ -17,7 +18,7 @@ returns c =
     let k = m .before .before .before .before in
     let s = k .before .before .before .before .before .before in
     let a = s .args in
-    same-steps (ap₂ (λ (L A : List ℕ). tableSteps (a .f .config) L A (a .f .base .0))
+    same-steps (ap₂ (λ (L A : List ℕ). tableSteps (lent (a .f .config) L A (a .f .base .0)))
     (k .copy-words .ensures ∙ ap (wordsFrom (a .s .now) (a .f .words)) (s .pre .0))
     (m .copy-words2 .ensures
     ∙ ap₂ (wordsFrom (a .s .now)) (let z = k .copy-words .kept .0 in let e = s .pre .0 in omega arith) (s .pre .1)))

@@ -6,6 +6,7 @@ use native.Mathlib.Omega.{arith}
 use Prim.Native.Nat.{ℕ, _≤_, _<_, _-_, _+_, _^_}
 use lib.ListN.{length}
 use lib.Pow.{pow-mono}
+use Rattle.resolve.specs.Lent.{lent}
 use Rattle.gpt.specs.Lookup.{lookupOf}
 use Rattle.dump_lines.specs.Lines.{line}
 use Rattle.dump_lines.proofs.Bytes.{put-length}
@@ -22,8 +23,8 @@ use Rattle.dump_text.proofs.runs_chunk.Tie as tie
 abbrev Inv-loop : tie.InvT-loop
 Inv-loop c l0 arena base w at filled out₀ end k₀ next₀ out k next =
     (k ≤ length out) × (length out ≡ length out₀) × (0 < next) ×
-    ((o′ : List ℕ) (r : Chunk) → Chunked (openSteps (lookupOf c l0 arena (base .0)) w) next k out o′ r
-    → Chunked (openSteps (lookupOf c l0 arena (base .0)) w) at filled out₀ o′ r)
+    ((o′ : List ℕ) (r : Chunk) → Chunked (openSteps (lookupOf (lent c l0 arena (base .0))) w) next k out o′ r
+    → Chunked (openSteps (lookupOf (lent c l0 arena (base .0))) w) at filled out₀ o′ r)
 
 abbrev μ-loop : tie.MeasureT-loop
 μ-loop c l0 arena base w at filled out₀ end k₀ next₀ out k next = total w + 1 - next
@@ -32,7 +33,7 @@ abbrev μ-loop : tie.MeasureT-loop
 top : (c : tie.Start Inv-loop μ-loop) → (c .args .w .pps ≤ 52) × (total (c .args .w) ≤ 2 ^ 52)
 top c =
     let a = c .args in
-    let m = pps-most (a .c) (a .l0 .now) (a .arena .now) (a .base .0) (a .w) (c .pre .0) in
+    let m = pps-most (lent (a .c) (a .l0 .now) (a .arena .now) (a .base .0)) (a .w) (c .pre .0) in
     (m, pow-mono m)
 
 -- the line fits
