@@ -1,5 +1,4 @@
 -- The starred cases, computed, and one more.
--- Assumes nothing.
 use mathlib.Core.Path.{refl}
 use Rattle.theory.specs.Format.{reads}
 use Rattle.theory.specs.Normal.{span}

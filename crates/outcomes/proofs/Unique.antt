@@ -1,7 +1,6 @@
 -- Each public contract has one outcome: whatever two runs of a call meet it on the same input, refused ones too, they agree in all that is handed
 -- back and in every word that the call may write. The clause of each contract stands as its function has it, under the function's name; the inputs
 -- are the sections' parameters. Those with more to leave than an answer are also met by the definition's own outcome, so that none is empty.
--- Assumes nothing.
 use mathlib.Core.Path.{_≡_, refl, sym, _∙_, ap, ap₂}
 use mathlib.Core.Bool.{Bool}
 use mathlib.Core.List.{List}
@@ -34,8 +33,9 @@ use Rattle.resolve.specs.declared.Ask.{Ask}
 use Rattle.resolve.specs.declared.Place.{Place}
 use Rattle.resolve.specs.declared.Refusal.{Refusal}
 use Rattle.resolve.specs.declared.Call.{Call}
+use Rattle.resolve.specs.declared.Call.the-variants.{Plain}
 use Rattle.resolve.specs.Refusals.{refusalNumber, arenaBad, logShort, gpiBad}
-use Rattle.resolve.specs.Place.{placeOf, seeking}
+use Rattle.resolve.specs.Place.{asks, placeOf}
 use Rattle.resolve.specs.Lent.{Lent, lent}
 use Rattle.gpt.specs.declared.Looked.{Looked}
 use Rattle.gpt.specs.declared.Changed.{Changed}
@@ -49,7 +49,7 @@ use Rattle.abi.specs.Packed.{lookedPacked, checkedPacked}
 use Rattle.abi.specs.Left.{SetLeft, MendLeft}
 use Rattle.dump_image.specs.declared.Read.{Read}
 use Rattle.dump_image.specs.declared.Fault.{Fault}
-use Rattle.dump_image.specs.Image.{readOf, faultNumber}
+use Rattle.dump_image.specs.Image.{readOf, frontOf, faultNumber}
 use Rattle.dump_lines.specs.Digits.{dec}
 use Rattle.dump_lines.specs.Lines.{name, header}
 use Rattle.dump_text.specs.declared.Chunk.{Chunk}
@@ -113,11 +113,14 @@ module _ (p g l f : ℕ) (T A : List ℕ) (b x : ℕ) where
 
 -- ---- the dump: the bytes of an image, a buffer, the place in the text
 
-pub image-parse : (s : List ℕ) → One (λ (r : Read). r ≡ readOf s)
-image-parse s = is _
+pub dump_image-parse : (s : List ℕ) → One (λ (r : Read). r ≡ readOf s)
+dump_image-parse s = is _
 
-pub image-fault_number : (f : Fault) → One (λ (n : ℕ). n ≡ faultNumber f)
-image-fault_number f = is _
+pub dump_image-parse_front : (s : List ℕ) → One (λ (r : Read). r ≡ frontOf s)
+dump_image-parse_front s = is _
+
+pub dump_image-fault_number : (f : Fault) → One (λ (n : ℕ). n ≡ faultNumber f)
+dump_image-fault_number f = is _
 
 chunk-of : {r q : Chunk} → r .written ≡ q .written → r .next ≡ q .next → r .done ≡ q .done → r ≡ q
 chunk-of {r = r} {q = q} e f g = ap₂ (λ w n. record { written = w; next = n; done = r .done }) e f ∙ ap (λ d. record { written = q .written; next = q .next; done = d }) g
@@ -130,11 +133,11 @@ module _ (S : ℕ → List Step) (k : ℕ) (o : List ℕ) where
       ends : r .0 .done ≡ q .0 .done
       ends = m .done ∙ (ap (λ j. none (S j)) (same (m .next) (n .next)) ∙ sym (n .done))
 
-pub text-dump_chunk : (s : List ℕ) (k : ℕ) (o : List ℕ) → One (λ (a : Chunk × List ℕ). Chunked (dumpSteps s) k 0 o (a .1) (a .0))
-text-dump_chunk s = chunked (dumpSteps s)
+pub dump_text-dump_chunk : (s : List ℕ) (k : ℕ) (o : List ℕ) → One (λ (a : Chunk × List ℕ). Chunked (dumpSteps s) k 0 o (a .1) (a .0))
+dump_text-dump_chunk s = chunked (dumpSteps s)
 
-pub text-table_chunk : (q : Lent) (k : ℕ) (o : List ℕ) → One (λ (a : Chunk × List ℕ). Chunked (tableSteps q) k 0 o (a .1) (a .0))
-text-table_chunk q = chunked (tableSteps q)
+pub dump_text-table_chunk : (q : Lent) (k : ℕ) (o : List ℕ) → One (λ (a : Chunk × List ℕ). Chunked (tableSteps q) k 0 o (a .1) (a .0))
+dump_text-table_chunk q = chunked (tableSteps q)
 
 -- ---- the view of a table t: its words, the granule width, an address
 
@@ -185,8 +188,8 @@ module _ (g : Gpi) (s : Size) where
   pub l0-block : One (λ (r : ℕ). r ≡ blockWord g)
   l0-block = is _
 
-  pub words-contig : One (λ (r : ℕ). r ≡ contigWord s g)
-  words-contig = is _
+  pub l1-contig : One (λ (r : ℕ). r ≡ contigWord s g)
+  l1-contig = is _
 
 module _ (a b : PA) where
   pub pa-sub : One (λ (r : Distance). r ≡ distanceOf (a .0) (b .0))
@@ -202,27 +205,27 @@ module _ (w : ℕ) where
   pub l0-l0_entry : One (λ (r : L0Entry). r ≡ l0Of w)
   l0-l0_entry = is _
 
-  pub words-l1_entry : One (λ (r : L1Entry). r ≡ l1Of w)
-  words-l1_entry = is _
+  pub l1-l1_entry : One (λ (r : L1Entry). r ≡ l1Of w)
+  l1-l1_entry = is _
 
-  pub nibbles-all_valid : One (λ (r : Bool). r ≡ all knownAt (nibs 16 w))
-  nibbles-all_valid = is _
+  pub granules-all_valid : One (λ (r : Bool). r ≡ all knownAt (nibs 16 w))
+  granules-all_valid = is _
 
-  pub nibbles-gpis : One (λ (r : List Gpi). r ≡ gpisOf w)
-  nibbles-gpis = is _
+  pub granules-gpis : One (λ (r : List Gpi). r ≡ gpisOf w)
+  granules-gpis = is _
 
-  pub words-flat : One (λ (r : ℕ). r ≡ flat w)
-  words-flat = is _
+  pub l1-flat : One (λ (r : ℕ). r ≡ flat w)
+  l1-flat = is _
 
-pub nibbles-granule : (gs : List Gpi) → One (λ (r : ℕ). r ≡ granuleWord gs)
-nibbles-granule gs = is _
+pub granules-granule : (gs : List Gpi) → One (λ (r : ℕ). r ≡ granuleWord gs)
+granules-granule gs = is _
 
 module _ (w : ℕ) (g : Gpi) where
-  pub nibbles-all_gpi : One (λ (r : Bool). r ≡ all (eqb (num g)) (nibs 16 w))
-  nibbles-all_gpi = is _
+  pub granules-all_gpi : One (λ (r : Bool). r ≡ all (eqb (num g)) (nibs 16 w))
+  granules-all_gpi = is _
 
-  pub words-matches_gpi : One (λ (r : Match). r ≡ matchAt w g)
-  words-matches_gpi = is _
+  pub l1-matches_gpi : One (λ (r : Match). r ≡ matchAt w g)
+  l1-matches_gpi = is _
 
 pub config-configure : (c : Config) → One (λ (r : Configured). r ≡ configuredOf c)
 config-configure c = is _
@@ -230,43 +233,43 @@ config-configure c = is _
 pub config-is_gpi_supported : (c : Config) (g : Gpi) → One (λ (r : Bool). r ≡ supportedOf c g)
 config-is_gpi_supported c g = is _
 
-pub refusals-number : (e : Refusal) → One (λ (r : ℕ). r ≡ refusalNumber e)
-refusals-number e = is _
+pub resolve-refusal_number : (e : Refusal) → One (λ (r : ℕ). r ≡ refusalNumber e)
+resolve-refusal_number e = is _
 
-pub refusals-arena_bad : (b : PA) (n : ℕ) → One (λ (r : Bool). r ≡ arenaBad (b .0) n)
-refusals-arena_bad b n = is _
+pub resolve-arena_bad : (b : PA) (n : ℕ) → One (λ (r : Bool). r ≡ arenaBad (b .0) n)
+resolve-arena_bad b n = is _
 
-pub refusals-log_short : (k : Call) → One (λ (r : Bool). r ≡ logShort k)
-refusals-log_short k = is _
+pub resolve-log_short : (k : Call) → One (λ (r : Bool). r ≡ logShort k)
+resolve-log_short k = is _
 
-pub refusals-gpi_bad : (c : Config) (k : Call) → One (λ (r : Bool). r ≡ gpiBad c k)
-refusals-gpi_bad c k = is _
+pub resolve-gpi_bad : (c : Config) (k : Call) → One (λ (r : Bool). r ≡ gpiBad c k)
+resolve-gpi_bad c k = is _
 
 pub gpt-grant : (c : Config) (g : Gpi) (e : Refusal) → One (λ (r : Looked). r ≡ granted c g e)
 gpt-grant c g e = is _
 
 module _ (p g l f : ℕ) where
-  pub packed-config : One (λ (r : Config). r ≡ configOf p g l f)
-  packed-config = is _
+  pub config-from_flags : One (λ (r : Config). r ≡ configOf p g l f)
+  config-from_flags = is _
 
-pub packed-pack_looked : (a : Looked) → One (λ (r : ℕ). r ≡ lookedPacked a)
-packed-pack_looked a = is _
+pub abi-pack_looked : (a : Looked) → One (λ (r : ℕ). r ≡ lookedPacked a)
+abi-pack_looked a = is _
 
-pub packed-pack_checked : (a : Checked) → One (λ (r : ℕ). r ≡ checkedPacked a)
-packed-pack_checked a = is _
+pub abi-pack_checked : (a : Checked) → One (λ (r : ℕ). r ≡ checkedPacked a)
+abi-pack_checked a = is _
 
-pub place-resolve : (q : Ask) (l : List ℕ) → One (λ (r : Place). r ≡ placeOf q l)
-place-resolve q l = is _
+pub resolve-resolve : (q : Ask) (l : List ℕ) → One (λ (r : Place). r ≡ placeOf q l)
+resolve-resolve q l = is _
 
-pub place-find : (c : Config) (n : ℕ) (b x : PA) (l : List ℕ) → One (λ (r : Place). r ≡ placeOf (seeking c n (b .0) (x .0)) l)
-place-find c n b x l = is _
+pub resolve-find : (c : Config) (n : ℕ) (b x : PA) (l : List ℕ) → One (λ (r : Place). r ≡ placeOf (asks c n (b .0) Plain (x .0)) l)
+resolve-find c n b x l = is _
 
 -- how long a line of the dump is
-pub lines-line_len : (a : Looked) → One (λ (r : ℕ). r ≡ 29 + length (name a))
-lines-line_len a = is _
+pub dump_lines-line_len : (a : Looked) → One (λ (r : ℕ). r ≡ 29 + length (name a))
+dump_lines-line_len a = is _
 
-pub lines-header_len : (w : Widths) → One (λ (r : ℕ). r ≡ length (header w))
-lines-header_len w = is _
+pub dump_lines-header_len : (w : Widths) → One (λ (r : ℕ). r ≡ length (header w))
+dump_lines-header_len w = is _
 
-pub digits-dec_len : (x : ℕ) → One (λ (r : ℕ). (r ≡ length (dec x)) × (r ≤ 2))
-digits-dec_len x r q m n = same (m .0) (n .0)
+pub dump_lines-dec_len : (x : ℕ) → One (λ (r : ℕ). (r ≡ length (dec x)) × (r ≤ 20))
+dump_lines-dec_len x r q m n = same (m .0) (n .0)
