@@ -4,3 +4,4 @@ pub mod Agreement
 pub mod Looks
 pub mod Cut
 pub mod Demand3
+pub mod Witness

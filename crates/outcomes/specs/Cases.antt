@@ -5,8 +5,8 @@ use mathlib.Core.List.{List, [], _∷_, _++_}
 use Prim.Native.Nat.{ℕ}
 use lib.ListN.{replicate}
 use Rattle.gpi.specs.declared.Gpi.the-variants.{NonSecure, Root}
-use Rattle.resolve.specs.Lent.{lent}
-use Rattle.resolve.specs.B.{fields, l0B, arenaB, inB}
+use Rattle.resolve.specs.Lent.{Lent, lent}
+use Rattle.resolve.specs.B.{fields, l0B, arenaB, arrangementB, inB}
 use Rattle.gpt.specs.declared.Looked.{Looked}
 use Rattle.gpt.specs.declared.Looked.the-variants.{Ok}
 use Rattle.gpt.specs.Lookup.{lookupOf, lookedNumber}
@@ -19,8 +19,8 @@ log = replicate 52 7
 abbrev pub look : List ℕ → ℕ → Looked
 look A x = lookupOf (inB A) x
 
-abbrev pub change : List ℕ → ℕ → ℕ → Outcome
-change A x g = setOf (inB A) log x g
+abbrev pub change : Lent → ℕ → ℕ → Outcome
+change q x g = setOf q log x g
 
 -- ---- what a set must answer and leave: number, stores, records, the whole arena, the whole log
 
@@ -65,15 +65,15 @@ pub record Starred : Type 0 where
   pub c6 : lookedNumber (lookupOf (lent (fields 0 1 4 true) l0B arenaB 0x8000_0000) 0x4000_0000) ≡ 1
   pub c6-off : lookedNumber (lookupOf (lent (fields 0 1 4 false) l0B arenaB 0x8000_0000) 0x4000_0000) ≡ 2
   -- set 0x40000000 Realm
-  pub c7 : Leaves 0 513 10 arena7 log7 (change arenaB 0x4000_0000 11)
+  pub c7 : Leaves 0 513 10 arena7 log7 (change arrangementB 0x4000_0000 11)
   -- "then Root again": from what C7 left
-  pub c8 : Leaves 0 513 5 arenaB log8 (change (change arenaB 0x4000_0000 11 .left .arena) 0x4000_0000 10)
+  pub c8 : Leaves 0 513 5 arenaB log8 (change (change arrangementB 0x4000_0000 11 .left) 0x4000_0000 10)
   -- "set Root at 0x40000000 gives 10 with 1 store; Realm gives 0"
-  pub c9 : Leaves 10 1 4 (arena9 0xAAAA_AAAA_AAAA_AAAA) (log9 0xAAAA_AAAA_AAAA_AAAA) (change (arena9 0xAAAA_AAAA_AAAA_AAAA) 0x4000_0000 10)
-  pub c9-realm : Leaves 0 1 4 (arena9 0xAAAA_AAAA_AAAA_AAAB) (log9 0xAAAA_AAAA_AAAA_AAAB) (change (arena9 0xAAAA_AAAA_AAAA_AAAA) 0x4000_0000 11)
+  pub c9 : Leaves 10 1 4 (arena9 0xAAAA_AAAA_AAAA_AAAA) (log9 0xAAAA_AAAA_AAAA_AAAA) (change (inB (arena9 0xAAAA_AAAA_AAAA_AAAA)) 0x4000_0000 10)
+  pub c9-realm : Leaves 0 1 4 (arena9 0xAAAA_AAAA_AAAA_AAAB) (log9 0xAAAA_AAAA_AAAA_AAAB) (change (inB (arena9 0xAAAA_AAAA_AAAA_AAAA)) 0x4000_0000 11)
   -- "set on the block at 0, NonSecure: 6", "set GPI 13: 6"
-  pub c10 : Leaves 6 0 0 arenaB log (change arenaB 0x0 9)
-  pub c11 : Leaves 6 0 0 arenaB log (change arenaB 0x4000_0000 13)
+  pub c10 : Leaves 6 0 0 arenaB log (change arrangementB 0x0 9)
+  pub c11 : Leaves 6 0 0 arenaB log (change arrangementB 0x4000_0000 13)
 
 -- ---- one more: a set that shatters and then answers 10
 
@@ -83,4 +83,4 @@ abbrev pub ShatteredThenStopped : Type 0
 ShatteredThenStopped =
     Leaves 10 3 8 (0xAAAA_AAAA_AAAA_AAAA ∷ 0xAAAA_AAAA_AAAA_AAAA ∷ 0x2 ∷ replicate 1021 0x3A1)
     (1 ∷ 0 ∷ 2 ∷ 0xAAAA_AAAA_AAAA_AAAA ∷ (barriers 0x20_0000 ++ (5 ∷ 0 ∷ 0 ∷ 0xAAAA_AAAA_AAAA_AAAA ∷ (barriers 0x1_0000 ++ replicate 20 7))))
-    (change (0x1A1 ∷ 0x1A1 ∷ 0x2 ∷ replicate 1021 0x3A1) 0x4000_0000 10)
+    (change (inB (0x1A1 ∷ 0x1A1 ∷ 0x2 ∷ replicate 1021 0x3A1)) 0x4000_0000 10)
