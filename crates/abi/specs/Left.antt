@@ -1,6 +1,5 @@
 -- What the exports that store hand back and leave: docs/ABI.md. The number is the call's answer, packed; the words are the call's. Crate
 -- `abi`.
--- Assumes nothing: these are definitions.
 use mathlib.Core.Path.{_≡_}
 use mathlib.Core.List.{List}
 use Prim.Native.Nat.{ℕ}

@@ -1,5 +1,4 @@
 -- The C interface's numbers: docs/ABI.md. What comes with an answer is packed with it into one number. Crate `abi`.
--- Assumes nothing: these are definitions.
 use mathlib.Core.Bool.{cond}
 use Prim.Native.Nat.{ℕ, _+_, _*_, _≤_}
 use Rattle.gpt.specs.declared.Looked.{Looked}

@@ -1,5 +1,4 @@
 -- What the widths of a configuration that was taken are, whatever its fields say. Crate `config`.
--- Assumes nothing.
 use mathlib.Core.Path.{_≡_, refl, sym, _∙_, subst}
 use mathlib.Core.Bool.{Bool, true, false, cond, _&&_}
 use mathlib.Core.List.{List, [], _∷_}

@@ -1,5 +1,4 @@
 -- Worked examples of the definitions, by computation alone. Crate `config`.
--- Assumes nothing.
 use mathlib.Core.Path.{_≡_, refl}
 use mathlib.Core.Bool.{Bool, true, false}
 use Prim.Native.Nat.{ℕ}

@@ -1,5 +1,4 @@
 -- The flags as one number, written and read: each undoes the other, whatever their count. Crate `config`.
--- Assumes nothing.
 use mathlib.Core.Path.{_≡_, sym, ap, ap₂, _∙_}
 use mathlib.Core.Bool.{Bool, true, false, cond}
 use mathlib.Core.List.{List, [], _∷_}

@@ -1,6 +1,5 @@
 -- The arithmetic of widths, once for every granule size: powers of two as the code computes them, where an index lies, how many words a
 -- size has, and that the 512 MB range of any word lies in its table. Crate `config`.
--- Assumes nothing.
 use mathlib.Core.Path.{_≡_, refl, sym, ap, _∙_}
 use Prim.Native.Nat.{ℕ, _+_, _-_, _*_, _/_, _%_, _≤_, _<_, _^_}
 use native.Mathlib.Nat.{one-mul, mod-lt, div-lt-iff-lt-mul, mul-le-mul-right, add-mul}

@@ -1,5 +1,4 @@
 -- Worked examples of the index rules, by computation alone. Crate `config`.
--- Assumes nothing.
 use mathlib.Core.Path.{_≡_, refl}
 use Prim.Native.Nat.{_^_}
 use Rattle.gpi.specs.declared.Size.the-variants.{MB2, MB512}

@@ -1,6 +1,5 @@
 -- Document 01, "What a call is lent" and "Numbers handed back": the widths that the fields mean, the refusals 1, 2, 1 in their order, and
 -- which GPIs are supported. Crate `config`.
--- Assumes nothing: these are definitions.
 use mathlib.Core.Bool.{Bool, true, cond, _&&_}
 use mathlib.Core.List.{[], _∷_}
 use Prim.Native.Nat.{ℕ, _≤_}

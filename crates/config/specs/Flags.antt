@@ -1,5 +1,4 @@
 -- The flags of a configuration as one number: the dump image and the C interface carry them so. Crate `config`.
--- Assumes nothing: these are definitions.
 use mathlib.Core.Bool.{Bool, cond}
 use mathlib.Core.List.{List, [], _∷_}
 use Prim.Native.Nat.{ℕ, _+_, _*_, _/_, _%_, _^_}

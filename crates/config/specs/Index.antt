@@ -1,6 +1,5 @@
 -- Document 01, "What a call is lent": how an address finds its L0 entry, its word in the L1 table and its granule, and how long tables and
 -- ranges are. Over the widths, never per granule size. Crate `config`.
--- Assumes nothing: these are definitions.
 use Prim.Native.Nat.{ℕ, _+_, _-_, _/_, _%_, _^_}
 use Rattle.gpi.specs.declared.Size.{Size}
 use Rattle.gpi.specs.Size.{bytesOf}

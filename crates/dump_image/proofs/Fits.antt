@@ -1,5 +1,4 @@
 -- What holds of an image that was read: of its version, its counts and its length. Crate `dump_image`.
--- Assumes nothing.
 use mathlib.Core.Path.{_≡_, refl, sym, ap, _∙_, subst}
 use mathlib.Core.Bool.{Bool, true, false, cond, not, _||_}
 use mathlib.Core.List.{List}

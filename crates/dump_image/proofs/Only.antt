@@ -1,6 +1,5 @@
 -- Only what is written reads as whole: bytes that read as an image are that of a lawful content, which they tell, in the version that they
 -- tell. Crate `dump_image`.
--- Assumes nothing.
 use mathlib.Core.Path.{_≡_, refl, sym, ap, ap₂, _∙_, subst}
 use mathlib.Core.List.{List, [], _∷_, _++_, append-assoc, append-nil}
 use Prim.Native.Nat.{ℕ, zero, suc, _+_, _*_, _/_, _%_, _^_, _≤_, _<_}

@@ -1,6 +1,5 @@
 -- What is written is read back: the image of every lawful content, in every known version, reads as its fields and its words. Crate
 -- `dump_image`.
--- Assumes nothing.
 use mathlib.Core.Path.{_≡_, refl, sym, ap, ap₂, _∙_, subst}
 use mathlib.Core.List.{List, [], _∷_, _++_, append-assoc, append-nil}
 use Prim.Native.Nat.{ℕ, zero, suc, _+_, _*_, _/_, _%_, _^_, _<_}

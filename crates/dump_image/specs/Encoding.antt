@@ -1,7 +1,6 @@
 -- The dump's image as it is written: the bytes of a content in a version, from document 01's list of fields. `proofs/RoundTrip` and
 -- `proofs/Only` show that this and the reader are one format: what is written is read back, and only what is written reads as whole. Crate
 -- `dump_image`.
--- Assumes nothing: these are definitions.
 use mathlib.Core.List.{List, [], _∷_, _++_}
 use Prim.Native.Nat.{ℕ, zero, suc, _/_, _%_, _^_, _≤_, _<_}
 use lib.ListN.{length}

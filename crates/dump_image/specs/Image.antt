@@ -1,6 +1,5 @@
 -- The dump's image as it is read: document 01, "Dump image and text". `Encoding` has it the other way, as it is written. Crate
 -- `dump_image`.
--- Assumes nothing: these are definitions.
 use mathlib.Core.Bool.{cond, not, _||_}
 use mathlib.Core.List.{List, [], _∷_, _++_}
 use Prim.Native.Nat.{ℕ, zero, suc, _+_, _*_}

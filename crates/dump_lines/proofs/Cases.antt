@@ -1,5 +1,4 @@
 -- Worked examples of decimal numbers, by computation alone. Crate `dump_lines`.
--- Assumes nothing.
 use mathlib.Core.Path.{_≡_, refl}
 use Rattle.dump_lines.specs.Digits.{digits, dec}
 use Rattle.dump_lines.specs.Lines.{ascii}

@@ -1,5 +1,4 @@
 -- Laws of numbers in decimal: digit by digit, how long they are, and that they read back. Crate `dump_lines`.
--- Assumes nothing.
 use mathlib.Core.Path.{_≡_, refl, sym, ap, _∙_}
 use mathlib.Core.Bool.{Bool, true, false}
 use mathlib.Core.List.{List, [], _∷_, _++_}

@@ -1,6 +1,5 @@
 -- The bytes of numbers, and bytes put into a buffer: what the dump's lines are made of. Document 01, "Dump image and text". Crate
 -- `dump_lines`.
--- Assumes nothing: these are definitions.
 use mathlib.Core.Path.{_≡_}
 use mathlib.Core.Bool.{true, false, cond}
 use mathlib.Core.List.{List, [], _∷_, _++_}

@@ -1,5 +1,4 @@
 -- The bytes of the dump's lines: document 01, "Dump image and text". Crate `dump_lines`.
--- Assumes nothing: these are definitions.
 use mathlib.Core.List.{List, [], _∷_, _++_}
 use Prim.Native.Nat.{ℕ, _+_}
 use Prim.Native.Char.{code}

@@ -1,5 +1,4 @@
 -- Aligned stretches of 2^k addresses: their last address, and what their addresses share.
--- Assumes nothing.
 use mathlib.Core.Path.{_≡_, sym, ap, _∙_, subst}
 use Prim.Native.Nat.{ℕ, _+_, _-_, _*_, _/_, _%_, _^_, _≤_, _<_}
 use native.Mathlib.Nat.{div-eq-of-lt-le, div-mul-le-self, lt-div-mul-add, add-mul, mul-le-mul-right, div-lt-iff-lt-mul}

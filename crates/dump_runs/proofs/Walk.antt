@@ -1,5 +1,4 @@
 -- Laws of runs: a piece that answers alike is passed at once, and where the first run ends.
--- Assumes nothing.
 use mathlib.Core.Path.{_≡_, refl, sym, ap, ap₂, _∙_}
 use mathlib.Core.Bool.{Bool, true, false}
 use mathlib.Core.List.{List, [], _∷_}

@@ -1,5 +1,4 @@
 -- Chunks of any sizes, one after the other, are the text; and a buffer of 47 bytes always goes on. Crate `dump_text`.
--- Assumes nothing.
 use mathlib.Core.Path.{_≡_, refl, sym, ap, ap₂, _∙_, subst}
 use mathlib.Core.Bool.{Bool, true, false, cond}
 use mathlib.Core.List.{List, [], _∷_, _++_, append-assoc, append-nil}

@@ -1,5 +1,4 @@
 -- Chunks line by line: where one ends, and that a line and a chunk behind it are a chunk. Crate `dump_text`.
--- Assumes nothing.
 use mathlib.Core.Path.{_≡_, sym, ap, ap₂, _∙_, subst}
 use mathlib.Core.Bool.{Bool, true, false}
 use mathlib.Core.List.{List, [], _∷_, _++_}

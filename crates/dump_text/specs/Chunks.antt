@@ -1,6 +1,5 @@
 -- The text in chunks: what is left from a place on, and how much of it a buffer takes. `proofs/Stream` shows that chunks of any sizes, one
 -- after the other, are the text. Crate `dump_text`.
--- Assumes nothing: these are definitions.
 use mathlib.Core.Path.{_≡_}
 use mathlib.Core.Bool.{Bool, true, false, cond}
 use mathlib.Core.List.{List, [], _∷_, _++_, map}

@@ -1,5 +1,4 @@
 -- The dump's whole text, for every input: document 01, "Dump image and text". Crate `dump_text`.
--- Assumes nothing: these are definitions.
 use mathlib.Core.Bool.{Bool, cond, not, _&&_}
 use mathlib.Core.List.{List, [], _∷_, _++_}
 use Prim.Native.Nat.{ℕ}

@@ -1,6 +1,5 @@
 -- Crate mend_table. The steps of `region` and `parts` over plain tables: how a range is compared as it is judged, how ranges follow one
 -- another, and that the whole table so compared is the check of document 01.
--- Assumes nothing.
 use mathlib.Core.Path.{_≡_, refl, sym, ap, _∙_}
 use mathlib.Core.Bool.{Bool, true, false, _&&_}
 use mathlib.Core.List.{List}

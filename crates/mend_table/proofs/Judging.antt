@@ -1,6 +1,5 @@
 -- Crate mend_table. The judgement of a range: that it holds by the range's one GPI, and that what is true of the words so judged is true of
 -- the range's normal words. The walk of mend and the comparison of the check both are such a truth.
--- Assumes nothing.
 use mathlib.Core.Path.{_≡_, refl, sym, ap, _∙_}
 use mathlib.Core.List.{List}
 use Prim.Native.Nat.{ℕ, suc, _+_, _*_, _<_, _≤_}

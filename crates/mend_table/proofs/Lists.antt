@@ -1,5 +1,4 @@
 -- Crate mend_table. `every` over stretches: a scan's loop, one stretch after another, and one test for another within the stretch.
--- Assumes nothing.
 use mathlib.Core.Path.{_≡_, refl, sym, _∙_}
 use mathlib.Core.Bool.{Bool, true, false, _&&_}
 use Prim.Native.Nat.{ℕ, zero, suc, _+_, _-_, _<_, _≤_}

@@ -1,6 +1,5 @@
 -- Crate mend_table. A range of one GPI, by the tests of `one_gpi`: the lowest word's granules are one GPI sixteen times, and every word's
 -- granules are those.
--- Assumes nothing.
 use mathlib.Core.Path.{_≡_, refl, sym, ap, _∙_}
 use mathlib.Core.Bool.{Bool, true, false, _&&_, _||_, and-false}
 use Prim.Native.Nat.{ℕ, zero, suc, _<_}

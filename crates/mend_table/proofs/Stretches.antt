@@ -1,6 +1,5 @@
 -- Crate mend_table. Where the ranges lie that mend and the check go through, over plain tables: some of several, a range and its sixteen
 -- parts, a table of whole regions.
--- Assumes nothing.
 use mathlib.Core.Path.{_≡_, refl, ap, _∙_}
 use mathlib.Core.List.{List}
 use Prim.Native.Nat.{ℕ, suc, _+_, _*_, _/_, _<_, _≤_}

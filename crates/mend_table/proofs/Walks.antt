@@ -1,6 +1,5 @@
 -- Crate mend_table. The steps of `mend_region` and `mend_parts` over plain tables: how a range is mended as it is judged, and how ranges
 -- follow one another.
--- Assumes nothing.
 use mathlib.Core.Path.{_≡_, refl, sym, _∙_}
 use mathlib.Core.List.{List}
 use Prim.Native.Nat.{ℕ, zero, suc, _+_, _*_, _/_, _<_, _≤_}

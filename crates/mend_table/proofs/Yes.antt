@@ -1,5 +1,4 @@
 -- Crate mend_table. What the check's yes means: the table is its own normal table, and no mend of it writes anything.
--- Assumes nothing.
 use mathlib.Core.Path.{_≡_, refl, sym, ap, _∙_}
 use mathlib.Core.Bool.{Bool, true, false, _&&_, cond}
 use mathlib.Core.List.{List, map}

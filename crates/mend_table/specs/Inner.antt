@@ -1,7 +1,6 @@
 -- Crate mend_table: what its inner functions promise one another. Its public contracts name none of this.
 -- There is no rule of its own in it: a mend walks towards the words of the theory's normal table, and the check compares with them, as far
 -- as the levels up to a range's go.
--- Assumes nothing: these are definitions.
 use mathlib.Core.Path.{_≡_}
 use mathlib.Core.Bool.{Bool, true, false, _||_}
 use mathlib.Core.List.{List}

@@ -1,6 +1,5 @@
 -- Crate mend_table: the tables that it takes, and what a mend leaves and reports. Document 01, "What a call is lent" and "Agreement, normal
 -- tables, mend".
--- Assumes nothing: these are definitions.
 use mathlib.Core.Path.{_≡_}
 use mathlib.Core.List.{List}
 use Prim.Native.Nat.{ℕ, _*_, _≤_, _<_}

@@ -1,6 +1,5 @@
 -- Crate mend_table: what the check answers. Document 01, "Agreement, normal tables, mend": the check "says yes exactly if an unlimited mend
 -- would write nothing". A table has no more words than its length, so a limit of so many stores stops no mend.
--- Assumes nothing: these are definitions.
 use mathlib.Core.Bool.{Bool}
 use mathlib.Core.List.{List}
 use Prim.Native.Nat.{ℕ}

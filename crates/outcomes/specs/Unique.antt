@@ -1,5 +1,4 @@
 -- Document 01, "How tight the contracts are": "uniqueness of such an outcome is shown". `proofs/Unique` shows it of every public contract.
--- Assumes nothing: these are definitions.
 use mathlib.Core.Path.{_≡_}
 
 -- C is what a contract says of the outcome of one call: any two outcomes that meet it are equal. An outcome is all that the call hands back and all

@@ -1,5 +1,4 @@
 -- Crate resolve. The arena's own tests, 4 and 8, as the code makes them: nothing is added before it is known to fit.
--- Assumes nothing.
 use mathlib.Core.Path.{_≡_, refl}
 use mathlib.Core.Bool.{Bool, true, false, not, _||_}
 use Prim.Native.Nat.{ℕ, _+_, _-_, _*_, _/_, _%_, _≤_, _<_, _^_}

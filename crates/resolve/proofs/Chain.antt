@@ -1,6 +1,5 @@
 -- Crate resolve. The order of refusals, link by link: what the definition says where a test is met and those before it are not, and what
 -- holds of a call that met none.
--- Assumes nothing.
 use mathlib.Core.Path.{_≡_, ap, _∙_}
 use mathlib.Core.Bool.{Bool, true, false, cond}
 use mathlib.Core.List.{List}

@@ -1,6 +1,5 @@
 -- Crate resolve. Two addresses lie in one granule exactly if they have the same L0 entry, the same word of its table and the same granule
 -- there. Over the widths, never per granule size.
--- Assumes nothing.
 use mathlib.Core.Path.{_≡_, sym, ap, ap₂, _∙_}
 use Prim.Native.Nat.{ℕ, _+_, _-_, _*_, _/_, _%_, _<_, _^_}
 use native.Mathlib.Nat.{mod-eq-of-lt, div-add-mod', div-div-eq-div-mul}

@@ -1,5 +1,4 @@
 -- Crate resolve. The numbers of the refusals that all calls share.
--- Assumes nothing.
 use Prim.Native.Nat.{_<_}
 use lib.Dec.{lit<}
 use Rattle.resolve.specs.declared.Refusal.{Refusal}

@@ -1,5 +1,4 @@
 -- Crate resolve. What a place promises, read off the order of refusals: callers, mend and the cut's theorem cite it.
--- Assumes nothing.
 use mathlib.Core.Path.{_≡_, refl, sym, ap, _∙_, subst}
 use mathlib.Core.Bool.{Bool, true, false, cond, not}
 use mathlib.Core.List.{List, _++_}

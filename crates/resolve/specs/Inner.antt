@@ -1,5 +1,4 @@
 -- Crate resolve. What the pieces of `resolve` and `find` promise each other: no public contract names it.
--- Assumes nothing: these are definitions.
 use mathlib.Core.Path.{_≡_}
 use mathlib.Core.Bool.{cond}
 use mathlib.Core.List.{List}

@@ -1,5 +1,4 @@
 -- Crate resolve. Document 01, "Numbers handed back": the refusals 1 to 8 in their order, once for every call, and where an address lies.
--- Assumes nothing: these are definitions.
 use mathlib.Core.Bool.{cond}
 use mathlib.Core.List.{List}
 use Prim.Native.Nat.{ℕ, _-_, _/_, _^_}

@@ -1,6 +1,5 @@
 -- Crate resolve. Document 01, "Numbers handed back": the refusals that all calls share, by their numbers, and the tests behind
 -- 4, 5, 6 and 8.
--- Assumes nothing: these are definitions.
 use mathlib.Core.Bool.{Bool, true, false, not, _||_}
 use Prim.Native.Nat.{ℕ, _+_, _*_, _%_, _^_}
 use lib.Dec.{eqb, ltb}

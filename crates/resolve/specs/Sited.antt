@@ -1,5 +1,4 @@
 -- Crate resolve. What a place in a table promises: `proofs/Promises` reads it off the order of refusals.
--- Assumes nothing: these are definitions.
 use mathlib.Core.Path.{_≡_}
 use mathlib.Core.Bool.{false}
 use mathlib.Core.List.{List}

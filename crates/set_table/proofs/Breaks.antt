@@ -1,5 +1,4 @@
 -- What holds between the calls of a break-up, over plain lists, and what room it leaves. Of the crate `set_table`.
--- Assumes nothing.
 use mathlib.Core.List.{List, _++_}
 use Prim.Native.Nat.{ℕ, _+_, _*_, _≤_, _<_}
 use native.Mathlib.Omega.{arith}

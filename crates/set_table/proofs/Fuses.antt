@@ -1,5 +1,4 @@
 -- What holds between the calls of the fuse, over plain lists: where a size's range lies, and its fill. Of the crate `set_table`.
--- Assumes nothing.
 use mathlib.Core.Path.{_≡_}
 use mathlib.Core.List.{List}
 use Prim.Native.Nat.{ℕ}

@@ -1,5 +1,4 @@
 -- Where the ranges of a set lie, in the crate `set_table`: each range around the index is in the 512 MB range.
--- Assumes nothing.
 use mathlib.Core.Path.{_≡_}
 use mathlib.Core.List.{List}
 use Prim.Native.Nat.{ℕ, zero, suc, _+_, _-_, _*_, _≤_, _<_}

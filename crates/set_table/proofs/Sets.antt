@@ -1,6 +1,5 @@
 -- What holds between the calls of a set, over plain lists, at any format that has the laws; and the two kinds of valid entry. Of the crate
 -- `set_table`.
--- Assumes nothing.
 use mathlib.Core.Path.{_≡_, refl, sym, ap, ap₂, _∙_}
 use mathlib.Core.List.{List, [], _∷_, _++_, append-assoc, append-nil}
 use Prim.Native.Nat.{ℕ, suc, _+_, _%_, _<_}

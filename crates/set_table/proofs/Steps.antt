@@ -1,5 +1,4 @@
 -- What holds between the calls of a shatter, over plain lists. Of the crate `set_table`.
--- Assumes nothing.
 use mathlib.Core.Path.{_≡_, refl, _∙_}
 use mathlib.Core.List.{List, _++_}
 use Prim.Native.Nat.{ℕ, suc, _+_, _-_, _*_, _≤_}

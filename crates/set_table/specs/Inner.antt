@@ -1,5 +1,4 @@
 -- What the functions inside the crate `set_table` ask and promise. No public contract of the library speaks of it.
--- Assumes nothing: these are definitions.
 use mathlib.Core.Path.{_≡_}
 use mathlib.Core.List.{List, _∷_, _++_}
 use Prim.Native.Nat.{ℕ, _+_, _-_, _*_, _≤_, _<_, _^_}

@@ -1,6 +1,5 @@
 -- A set of one L1 table, for every input: document 01, "Set, step by step", over the events of the crate `theory` at the Arm format. Of the
 -- crate `set_table`.
--- Assumes nothing: these are definitions.
 use mathlib.Core.Path.{_≡_}
 use mathlib.Core.Bool.{cond}
 use mathlib.Core.List.{List, []}

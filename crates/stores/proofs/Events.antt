@@ -1,6 +1,5 @@
 -- Laws of `Done` and `Room` of the crate `stores`: no event, one event, events after events; what stays of the lengths, and the room that
 -- is left.
--- Assumes nothing.
 use mathlib.Core.Path.{_≡_, refl, ap, _∙_}
 use mathlib.Core.List.{List, [], _∷_, _++_, append-nil}
 use Prim.Native.Nat.{ℕ, zero, suc, _+_, _*_, _≤_, _<_}

@@ -1,6 +1,5 @@
 -- What a routine of the crate `stores` promises: its events happened, and nothing else; and what it asks. Document 01: "each one's contract
 -- states its words and its own record together".
--- Assumes nothing: these are definitions.
 use mathlib.Core.Path.{_≡_}
 use mathlib.Core.List.{List}
 use Prim.Native.Nat.{ℕ, _+_, _*_, _≤_, _<_, _^_}

@@ -1,6 +1,5 @@
 -- A set cut after any number of its stores, of one table: what it reads, and what mends make of it. These are demand 3's clauses for a
 -- table whose entry at the address agrees. Of the crate `theory`.
--- Assumes nothing.
 use mathlib.Core.Path.{_≡_, refl, sym, ap, _∙_}
 use mathlib.Core.Logic.{_≢_}
 use mathlib.Core.Bool.{true}

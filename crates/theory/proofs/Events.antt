@@ -1,6 +1,5 @@
 -- Laws of events: lists of them append, in their stores, their records and on the log; how many stores they make; the log read back tells
 -- their stores. Of the crate `theory`.
--- Assumes nothing.
 use mathlib.Core.Path.{_≡_, refl, sym, ap, ap₂, _∙_}
 use mathlib.Core.Bool.{false}
 use mathlib.Core.List.{List, [], _∷_, _++_, append-assoc, map-append}

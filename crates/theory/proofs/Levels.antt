@@ -1,6 +1,5 @@
 -- The levels of an index: the word of the first levels, by whether the widest of them is alike; and which level a normal word has. Of the
 -- crate `theory`.
--- Assumes nothing.
 use mathlib.Core.Path.{_≡_, refl, sym, ap, _∙_}
 use mathlib.Core.Bool.{Bool, true, false, cond}
 use Prim.Native.Nat.{ℕ, zero, suc, _+_, _-_, _≤_, _<_}

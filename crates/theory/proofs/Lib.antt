@@ -7,7 +7,6 @@
 --   Whole   normal tables are whole, whole tables agree, finished sets keep it and finished mends make it, stopped ones need not
 --   Arena   a table that stands in an arena: laid in its place, and stores made there
 -- The code's proofs cite Stores and Events (lists of stores and events compose) and Onward (mend's loop). The rest serves these.
--- Assumes nothing.
 pub mod Lists
 pub mod Ranges
 pub mod Stores

@@ -1,5 +1,4 @@
 -- The log tells the stores: read back from its own words it gives the stores of the set, in the arena. Of the crate `theory`.
--- Assumes nothing.
 use mathlib.Core.Path.{_≡_, _∙_}
 use mathlib.Core.List.{List}
 use Prim.Native.Nat.{ℕ, _+_, _*_, _≤_, _<_}

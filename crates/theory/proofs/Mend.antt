@@ -1,5 +1,4 @@
 -- Mend: what it keeps, what it writes and counts, and where mends lead. Of the crate `theory`.
--- Assumes nothing.
 use mathlib.Core.Path.{_≡_, refl, sym, ap, _∙_}
 use mathlib.Core.Bool.{Bool, true, false, cond}
 use mathlib.Core.List.{List, [], _∷_, _++_, map}

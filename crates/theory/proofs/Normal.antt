@@ -1,6 +1,5 @@
 -- The normal table: a function of what the table reads, that reads the same, is its own normal table, and is the one such table. Of the
 -- crate `theory`.
--- Assumes nothing.
 use mathlib.Core.Path.{_≡_, refl, sym, ap, _∙_}
 use mathlib.Core.Bool.{Bool, true, false, cond}
 use mathlib.Core.List.{List, map}

@@ -1,6 +1,5 @@
 -- The laws of mend's walk over stretches: how a routine's loop goes on, how routines compose, and that a walk over the whole table is a
 -- mend. Of the crate `theory`.
--- Assumes nothing.
 use mathlib.Core.Path.{_≡_, refl, sym, ap, _∙_}
 use mathlib.Core.Bool.{Bool, true, false, _&&_, not, cond, and-true, and-false}
 use mathlib.Core.List.{List, [], _∷_, _++_, map, append-nil}

@@ -1,5 +1,4 @@
 -- Aligned ranges: one within another, and within a table of whole 512 MB ranges. Of the crate `theory`.
--- Assumes nothing.
 use mathlib.Core.Path.{_≡_, sym, ap}
 use mathlib.Core.List.{List}
 use Prim.Native.Nat.{ℕ, zero, suc, _+_, _*_, _/_, _≤_, _<_}

@@ -1,6 +1,5 @@
 -- The parts of a set: its stores in three lots, what its scans find, where its stores lie, how many records and stores it makes. Of the
 -- crate `theory`.
--- Assumes nothing.
 use mathlib.Core.Path.{_≡_, refl, sym, _∙_}
 use mathlib.Core.Bool.{Bool, true, false, _&&_, cond}
 use mathlib.Core.List.{List, [], _∷_, _++_, append-assoc, append-nil}

@@ -1,5 +1,4 @@
 -- What a shatter stores, and what it leaves at each index. Of the crate `theory`.
--- Assumes nothing.
 use mathlib.Core.Path.{_≡_, refl, sym, ap, _∙_}
 use mathlib.Core.Bool.{true}
 use mathlib.Core.List.{List, _++_, append-nil}

@@ -1,6 +1,5 @@
 -- Whole tables: a normal table is whole, a whole table's entries agree, a finished set keeps a table whole, a finished mend makes it so. Of
 -- the crate `theory`.
--- Assumes nothing.
 use mathlib.Core.Path.{_≡_, refl, sym, ap, _∙_}
 use mathlib.Core.Bool.{true}
 use mathlib.Core.List.{List, _∷_}

@@ -1,6 +1,5 @@
 -- A table that stands in an arena: its words, and the arena with other words in their place. Document 01, "the L1 table is .. wholly inside
 -- the arena". Of the crate `theory`.
--- Assumes nothing.
 use mathlib.Core.List.{List}
 use Prim.Native.Nat.{ℕ}
 use borrow.Rule.Slice.PartMut.{midOf, putMid}

@@ -1,6 +1,5 @@
 -- Document 01, "Set, step by step", the log: what a set does, in order, as events; their stores; their records, laid over the log; and the
 -- log read back by a rule of its own. One definition of each, for the code's contracts and for the theorems. Of the crate `theory`.
--- Assumes nothing.
 use mathlib.Core.Bool.{true, false}
 use mathlib.Core.List.{List, [], _∷_, _++_}
 use Prim.Native.Nat.{ℕ, zero, suc, _+_, _*_}

@@ -1,7 +1,6 @@
 -- Document 01, "Words", as far as tables have to know it: a record of the word format's functions, and apart from it a record of their
 -- laws. Definitions take the functions alone, theorems the laws as well, so that each edition of the format is one more value of both. Of
 -- the crate `theory`.
--- Assumes nothing.
 use mathlib.Core.Path.{_≡_}
 use mathlib.Core.Logic.{_≢_}
 use mathlib.Core.Bool.{Bool, true, false, _&&_, cond}

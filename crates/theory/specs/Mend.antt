@@ -1,6 +1,5 @@
 -- Document 01, "Agreement, normal tables, mend": "Mend takes … a store limit, writes upward, only words that differ, stops at the limit and
 -- reports how many; a cut mend is one so limited." Of the crate `theory`.
--- Assumes nothing.
 use mathlib.Core.Bool.{cond}
 use mathlib.Core.List.{List, [], _∷_}
 use Prim.Native.Nat.{ℕ, zero, suc, _+_}

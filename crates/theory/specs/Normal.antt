@@ -1,7 +1,6 @@
 -- Document 01, "Agreement, normal tables, mend", its second sentence: "The normal table keeps each invalid word; each valid word takes the
 -- largest of 512, 32, 2 MB whose aligned range is valid throughout and of one GPI, as that contiguous word; else its sixteen granules."
 -- Over u, the words of 2 MB: 32, 8 or 2 by the granule size. Of the crate `theory`.
--- Assumes nothing.
 use mathlib.Core.Bool.{Bool, true, _&&_, cond}
 use mathlib.Core.List.{List, [], _∷_}
 use Prim.Native.Nat.{ℕ, zero, suc, _+_, _*_, _/_, _≤_, _<_}

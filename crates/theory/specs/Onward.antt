@@ -1,6 +1,5 @@
 -- Mend as its code goes: a walk over stretches of the table, one turn for each word. `proofs/Onward` shows that a walk over all of it is
 -- the mend of document 01. Of the crate `theory`.
--- Assumes nothing.
 use mathlib.Core.Path.{_≡_}
 use mathlib.Core.Bool.{Bool, cond, _&&_, not}
 use mathlib.Core.List.{List}

@@ -1,6 +1,5 @@
 -- Document 01, "Set, step by step": what a set of one granule of an L1 table does, as events computed from the table; agreement; and the
 -- new granules, said by themselves. Of the crate `theory`.
--- Assumes nothing.
 use mathlib.Core.Path.{_≡_}
 use mathlib.Core.Bool.{true, cond}
 use mathlib.Core.List.{List, [], _∷_, _++_, map}

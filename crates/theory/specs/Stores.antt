@@ -1,6 +1,5 @@
 -- Document 01, "A store is one whole word. Fills run upward", and a cut: "the lent table with the first k stores made". Of the crate
 -- `theory`.
--- Assumes nothing.
 use mathlib.Core.Path.{_≡_}
 use mathlib.Core.List.{List, [], _∷_, map}
 use Prim.Native.Nat.{ℕ, zero, suc, _+_, _<_}

@@ -1,5 +1,4 @@
 -- What chains over time. Agreement isn't kept by a finished set; being whole is, and it implies agreement. Of the crate `theory`.
--- Assumes nothing.
 use mathlib.Core.Path.{_≡_}
 use mathlib.Core.List.{List}
 use Prim.Native.Nat.{ℕ, suc, _<_}

@@ -1,5 +1,4 @@
 -- `abi::gpt_lookup` meets its contract: the call's answer, packed.
--- Assumes nothing.
 use mathlib.Core.Path.{ap, _∙_}
 use Rattle.config.specs.declared.Config.{Config}
 use Rattle.gpt.specs.Lookup.{lookupOf}

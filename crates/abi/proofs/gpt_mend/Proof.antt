@@ -1,5 +1,4 @@
 -- `abi::gpt_mend` meets its contract: the call's answer, packed, with the arena that it leaves; its count is small.
--- Assumes nothing.
 use mathlib.Core.Path.{ap, _∙_}
 use borrow.Author.Needs.{needs}
 use Rattle.abi.proofs.gpt_mend.Statement.{statement}

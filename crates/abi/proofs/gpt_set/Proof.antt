@@ -1,5 +1,4 @@
 -- `abi::gpt_set` meets its contract: the call's answer, packed, with the arena and the log that it leaves; its counts are small.
--- Assumes nothing.
 use borrow.Author.Needs.{needs}
 use Rattle.abi.proofs.gpt_set.Statement.{statement}
 use Rattle.abi.proofs.gpt_set.Tie as tie

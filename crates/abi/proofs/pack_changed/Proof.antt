@@ -1,5 +1,4 @@
 -- `abi::pack_changed` meets its contract, by the small counts that it asks.
--- Assumes nothing.
 use borrow.Author.Needs.{needs}
 use Rattle.abi.proofs.pack_changed.Statement.{statement}
 use Rattle.abi.proofs.pack_changed.Tie as tie

@@ -1,5 +1,4 @@
 -- `abi::pack_checked` meets its contract: each arm is told which answer it is.
--- Assumes nothing.
 use native.Mathlib.Omega.{arith}
 use borrow.Author.Needs.{needs}
 use Rattle.abi.proofs.pack_checked.Statement.{statement}

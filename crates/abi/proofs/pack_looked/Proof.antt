@@ -1,5 +1,4 @@
 -- `abi::pack_looked` meets its contract: a GPI is below 16, so the product fits.
--- Assumes nothing.
 use borrow.Author.Needs.{needs}
 use Rattle.abi.proofs.pack_looked.Statement.{statement}
 use Rattle.abi.proofs.pack_looked.Tie as tie

@@ -1,5 +1,4 @@
 -- `abi::pack_mended` meets its contract: by the small count that it asks, the product fits.
--- Assumes nothing.
 use native.Mathlib.Omega.{arith}
 use borrow.Author.Needs.{needs}
 use Rattle.abi.proofs.pack_mended.Statement.{statement}

@@ -1,5 +1,4 @@
 -- `config::configure` meets its contract: at each return, what the tables said and the tests that led there pick the definition's case.
--- Assumes nothing.
 use mathlib.Core.Path.{_≡_, sym, _∙_}
 use mathlib.Core.Bool.{true, false}
 use Prim.Native.Nat.{ℕ, _≤_, _<_}

@@ -1,5 +1,4 @@
 -- `config::from_flags` meets its contract: each field is the lent one, each flag its bit.
--- Assumes nothing.
 use borrow.Author.Needs.{needs}
 use Rattle.config.proofs.from_flags.Statement.{statement}
 use Rattle.config.proofs.from_flags.Tie as tie

@@ -1,5 +1,4 @@
 -- `config::is_gpi_supported` meets its contract: each arm is told which GPI it is.
--- Assumes nothing.
 use borrow.Author.Needs.{needs}
 use Rattle.config.proofs.is_gpi_supported.Statement.{statement}
 use Rattle.config.proofs.is_gpi_supported.Tie as tie

@@ -1,5 +1,4 @@
 -- `config::l1_resolve` meets its contract: a mask is a remainder, a shift a quotient.
--- Assumes nothing.
 use mathlib.Core.Path.{ap}
 use Prim.Native.Nat.{ℕ, _+_, _/_, _^_}
 use native.Mathlib.Omega.{arith}

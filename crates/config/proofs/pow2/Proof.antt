@@ -1,5 +1,4 @@
 -- `config::pow2` meets its contract.
--- Assumes nothing.
 use borrow.Author.Needs.{needs}
 use Rattle.config.proofs.Geometry.{shift-one}
 use Rattle.config.proofs.pow2.Statement.{statement}

@@ -1,5 +1,4 @@
 -- `dump_image::copy_words` meets its contract. The loop keeps that the first k words are those of the image.
--- Assumes nothing.
 use mathlib.Core.Path.{_≡_, refl}
 use mathlib.Core.List.{_++_}
 use Prim.Native.Nat.{_≤_, _-_, _+_}

@@ -1,5 +1,4 @@
 -- `dump_image::head_of` meets its contract.
--- Assumes nothing.
 use borrow.Author.Tests.{eq-eqb, ne-eqb}
 use Rattle.dump_image.proofs.head_of.Statement.{statement}
 use Rattle.dump_image.proofs.head_of.Tie as tie

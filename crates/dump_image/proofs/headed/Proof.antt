@@ -1,5 +1,4 @@
 -- `dump_image::headed` meets its contract: what is read is what the image tells.
--- Assumes nothing.
 use mathlib.Core.Path.{ap₂, _∙_}
 use Prim.Native.Nat.{ℕ, _+_, _*_}
 use borrow.Author.Needs.{needs}

@@ -1,5 +1,4 @@
 -- `dump_image::number` meets its contract. The loop keeps that v is the number of the first k bytes.
--- Assumes nothing.
 use mathlib.Core.Path.{_≡_, ap, _∙_}
 use Prim.Native.Nat.{_≤_, _<_, _-_, _+_, _^_}
 use native.Mathlib.Omega.{arith}

@@ -1,5 +1,4 @@
 -- `dump_image::parse_front` meets its contract.
--- Assumes nothing.
 use mathlib.Core.Path.{sym, ap, _∙_}
 use borrow.Author.Needs.{needs}
 use borrow.Author.Tests.{eq-eqb, ne-eqb}

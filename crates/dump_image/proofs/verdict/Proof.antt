@@ -1,5 +1,4 @@
 -- `dump_image::verdict` meets its contract: at each return, the tests that led there pick the definition's case.
--- Assumes nothing.
 use borrow.Author.Needs.{needs}
 use borrow.Author.Tests.{eq-eqb, ne-eqb, lt-ltb, le-ltb}
 use Rattle.dump_image.proofs.verdict.Statement.{statement}

@@ -1,5 +1,4 @@
 -- `dump_lines::dec_len` meets its contract. The loop keeps that the digits left and those counted are all.
--- Assumes nothing.
 use mathlib.Core.Path.{_≡_, ap}
 use Prim.Native.Nat.{_+_}
 use native.Mathlib.Omega.{arith}

@@ -1,5 +1,4 @@
 -- `dump_lines::digit` meets its contract.
--- Assumes nothing.
 use Rattle.dump_lines.proofs.Bytes.{digit-low, digit-high}
 use borrow.Author.Needs.{needs}
 use Rattle.dump_lines.proofs.digit.Statement.{statement}

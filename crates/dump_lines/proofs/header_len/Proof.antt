@@ -1,5 +1,4 @@
 -- `dump_lines::header_len` meets its contract.
--- Assumes nothing.
 use native.Mathlib.Omega.{arith}
 use Rattle.dump_lines.proofs.Lengths.{length-header}
 use borrow.Author.Needs.{needs}

@@ -1,5 +1,4 @@
 -- `dump_lines::name_len` meets its contract.
--- Assumes nothing.
 use mathlib.Core.Path.{ap}
 use lib.ListN.{length}
 use Rattle.gpt.specs.declared.Looked.{Looked}

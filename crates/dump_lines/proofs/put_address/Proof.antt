@@ -1,5 +1,4 @@
 -- `dump_lines::put_address` meets its contract.
--- Assumes nothing.
 use native.Mathlib.Omega.{arith}
 use Rattle.dump_lines.specs.Digits.{hex}
 use Rattle.dump_lines.specs.Lines.{space, address}

@@ -1,5 +1,4 @@
 -- `dump_lines::put_gpi` meets its contract.
--- Assumes nothing.
 use Rattle.dump_lines.specs.Lines.{names, gpiName}
 use Rattle.dump_lines.proofs.Bytes.{part-put}
 use borrow.Author.Needs.{needs}

@@ -1,5 +1,4 @@
 -- `dump_lines::put_header` meets its contract: where the line has room, each piece finds it where the one before ends.
--- Assumes nothing.
 use mathlib.Core.List.{List, _++_}
 use Prim.Native.Nat.{ℕ, _+_, _≤_}
 use lib.ListN.{length}

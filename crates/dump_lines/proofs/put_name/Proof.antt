@@ -1,5 +1,4 @@
 -- `dump_lines::put_name` meets its contract.
--- Assumes nothing.
 use mathlib.Core.Path.{ap}
 use native.Mathlib.Omega.{arith}
 use lib.ListN.{length}

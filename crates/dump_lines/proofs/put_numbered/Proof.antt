@@ -1,5 +1,4 @@
 -- `dump_lines::put_numbered` meets its contract.
--- Assumes nothing.
 use Rattle.dump_lines.specs.Digits.{dec}
 use Rattle.dump_lines.proofs.Bytes.{then-put, room-first, room-next}
 use borrow.Author.Needs.{needs}

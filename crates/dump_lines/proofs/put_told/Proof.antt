@@ -1,5 +1,4 @@
 -- `dump_lines::put_told` meets its contract.
--- Assumes nothing.
 use mathlib.Core.List.{_++_}
 use Rattle.dump_lines.specs.Digits.{dec}
 use Rattle.dump_lines.specs.Lines.{feed, told}

@@ -1,5 +1,4 @@
 -- `dump_lines::told_len` meets its contract.
--- Assumes nothing.
 use native.Mathlib.Omega.{arith}
 use Rattle.dump_lines.proofs.Lengths.{length-told}
 use borrow.Author.Needs.{needs}

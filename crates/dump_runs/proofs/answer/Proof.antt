@@ -1,5 +1,4 @@
 -- `dump_runs::answer` meets its contract.
--- Assumes nothing.
 use borrow.Author.Needs.{needs}
 use Rattle.dump_runs.proofs.answer.Statement.{statement}
 use Rattle.dump_runs.proofs.answer.Tie as tie

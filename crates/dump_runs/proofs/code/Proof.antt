@@ -1,5 +1,4 @@
 -- `dump_runs::code` meets its contract.
--- Assumes nothing.
 use mathlib.Core.Path.{ap}
 use native.Mathlib.Omega.{arith}
 use Rattle.dump_runs.specs.Runs.{codeOf}

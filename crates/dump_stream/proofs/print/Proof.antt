@@ -1,5 +1,4 @@
 -- `dump_stream::print` is safe and ends: each chunk goes on, and no further than 2^52.
--- Assumes nothing.
 use mathlib.Core.Path.{_≡_, refl, sym, _∙_}
 use native.Mathlib.Omega.{arith}
 use Prim.Native.Nat.{_≤_, _-_, _^_}

@@ -1,5 +1,4 @@
 -- `dump_text::loaded_chunk` meets its contract.
--- Assumes nothing.
 use mathlib.Core.Path.{ap, ap₂, _∙_}
 use mathlib.Core.List.{List}
 use native.Mathlib.Omega.{arith}

@@ -1,5 +1,4 @@
 -- `dump_text::number` meets its contract.
--- Assumes nothing.
 use mathlib.Core.Path.{sym, ap, _∙_}
 use native.Mathlib.Omega.{arith}
 use Rattle.gpt.specs.Lookup.{lookedNumber}

@@ -1,5 +1,4 @@
 -- `dump_text::open_chunk` meets its contract.
--- Assumes nothing.
 use native.Mathlib.Omega.{arith}
 use Rattle.dump_lines.specs.Lines.{header}
 use Rattle.dump_text.specs.Chunks.{step}

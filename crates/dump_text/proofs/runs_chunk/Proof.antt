@@ -1,5 +1,4 @@
 -- `dump_text::runs_chunk` meets its contract. The loop keeps that whatever chunks the rest chunks the whole.
--- Assumes nothing.
 use mathlib.Core.Path.{_≡_, refl, _∙_}
 use mathlib.Core.List.{List}
 use native.Mathlib.Omega.{arith}

@@ -1,5 +1,4 @@
 -- `dump_text::table_chunk` meets its contract.
--- Assumes nothing.
 use mathlib.Core.Path.{_≡_, sym, ap, _∙_}
 use Rattle.resolve.specs.Lent.{lent}
 use Rattle.gpt.specs.Lookup.{lookedNumber}

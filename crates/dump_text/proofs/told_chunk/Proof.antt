@@ -1,5 +1,4 @@
 -- `dump_text::told_chunk` meets its contract.
--- Assumes nothing.
 use mathlib.Core.Path.{refl}
 use native.Mathlib.Omega.{arith}
 use Rattle.dump_lines.specs.Lines.{told}

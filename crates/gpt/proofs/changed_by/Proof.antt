@@ -1,5 +1,4 @@
 -- `gpt::changed_by` meets its contract: each arm is told which answer it is.
--- Assumes nothing.
 use borrow.Author.Needs.{needs}
 use Rattle.gpt.proofs.changed_by.Statement.{statement}
 use Rattle.gpt.proofs.changed_by.Tie as tie

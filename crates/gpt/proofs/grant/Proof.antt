@@ -1,5 +1,4 @@
 -- `gpt::grant` meets its contract.
--- Assumes nothing.
 use mathlib.Core.Path.{sym, _∙_}
 use borrow.Author.Needs.{needs}
 use Rattle.gpt.proofs.grant.Statement.{statement}

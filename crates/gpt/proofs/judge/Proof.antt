@@ -1,5 +1,4 @@
 -- `gpt::judge` meets its contract.
--- Assumes nothing.
 use mathlib.Core.Path.{sym, ap, _∙_}
 use Rattle.gpt.specs.Lookup.{judged}
 use borrow.Author.Needs.{needs}

@@ -1,5 +1,4 @@
 -- `gpt::lookup` meets its contract: by the place of the address; the L1 table is that part of the arena.
--- Assumes nothing.
 use mathlib.Core.Path.{sym, _∙_}
 use native.Mathlib.Nat.{add-sub-cancel-left}
 use native.Mathlib.Omega.{arith}

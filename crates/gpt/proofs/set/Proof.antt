@@ -1,5 +1,4 @@
 -- `gpt::set` meets its contract: at each return, the place that was found picks the definition's case.
--- Assumes nothing.
 use mathlib.Core.Path.{refl, sym, _∙_}
 use borrow.Author.Tests.{ltb-false}
 use Rattle.config.specs.declared.Widths.{Widths}

@@ -1,5 +1,4 @@
 -- `gpt::set_site` meets its contract: the set of the table, made in the part of the arena that is lent.
--- Assumes nothing.
 use native.Mathlib.Nat.{add-sub-cancel-left}
 use native.Mathlib.Omega.{arith}
 use borrow.Author.Needs.{needs}

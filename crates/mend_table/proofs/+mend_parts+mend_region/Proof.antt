@@ -1,6 +1,5 @@
 -- Crate mend_table: the cycle of calls {mend_parts, mend_region} meets its contracts. The measure is twice the size's level, and one more
 -- for the parts.
--- Assumes nothing.
 use mathlib.Core.Path.{_≡_, refl, _∙_}
 use Prim.Native.Nat.{ℕ, _+_, _-_, _*_, _<_, _≤_}
 use native.Mathlib.Omega.{arith}

@@ -1,5 +1,4 @@
 -- Crate mend_table: the cycle of calls {parts, region} meets its contracts. The measure: the size's level, then the parts left.
--- Assumes nothing.
 use mathlib.Core.Path.{refl}
 use Prim.Native.Nat.{ℕ, _+_, _*_, _<_}
 use native.Mathlib.Omega.{arith}

@@ -1,5 +1,4 @@
 -- Crate mend_table: `check_table` meets its contract.
--- Assumes nothing.
 use Rattle.l1.specs.Arm.{arm}
 use Rattle.mend_table.proofs.Stretches.{regions-pos, whole-lies}
 use Rattle.mend_table.proofs.Checks.{whole-checked}

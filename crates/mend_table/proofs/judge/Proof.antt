@@ -1,5 +1,4 @@
 -- Crate mend_table: `judge` meets its contract.
--- Assumes nothing.
 use mathlib.Core.Path.{sym, _∙_}
 use Rattle.l1.specs.Arm.{arm}
 use Rattle.l1.proofs.Arm.{arm-laws, contig-arm}

@@ -1,5 +1,4 @@
 -- Crate mend_table: `mend_table` meets its contract.
--- Assumes nothing.
 use Rattle.mend_table.proofs.Stretches.{regions-pos, whole-lies}
 use Rattle.mend_table.proofs.Walks.{whole-mended}
 use borrow.Author.Needs.{needs}

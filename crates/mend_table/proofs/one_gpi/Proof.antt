@@ -1,5 +1,4 @@
 -- Crate mend_table: `one_gpi` meets its contract.
--- Assumes nothing.
 use mathlib.Core.Path.{sym, ap, _∙_}
 use Prim.Native.Nat.{ℕ, _*_, _%_}
 use Rattle.gpi.specs.Gpi.{isKnown}

@@ -1,5 +1,4 @@
 -- Crate mend_table: `passes` meets its contract.
--- Assumes nothing.
 use mathlib.Core.Path.{refl}
 use borrow.Author.Needs.{needs}
 use Rattle.mend_table.proofs.passes.Statement.{statement}

@@ -1,5 +1,4 @@
 -- Crate mend_table: `put` meets its contract.
--- Assumes nothing.
 use Rattle.theory.proofs.Onward.{step-same, step-full, step-store}
 use borrow.Author.Needs.{needs}
 use Rattle.mend_table.proofs.put.Statement.{statement}

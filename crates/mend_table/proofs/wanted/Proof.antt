@@ -1,5 +1,4 @@
 -- Crate mend_table: `wanted` meets its contract.
--- Assumes nothing.
 use borrow.Author.Needs.{needs}
 use Rattle.mend_table.proofs.wanted.Statement.{statement}
 use Rattle.mend_table.proofs.wanted.Tie as tie

@@ -1,5 +1,4 @@
 -- `replay::replay` is safe and ends: the list says first how many records follow. The lengths stay.
--- Assumes nothing.
 use mathlib.Core.Path.{_≡_, refl, sym, _∙_}
 use native.Mathlib.Omega.{arith}
 use borrow.Author.Needs.{needs}

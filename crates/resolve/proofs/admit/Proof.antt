@@ -1,5 +1,4 @@
 -- `resolve::admit` meets its contract: its tests are those of the definition, and each return is the link of the chain that it is.
--- Assumes nothing.
 use mathlib.Core.Path.{_≡_, refl, sym, ap₂, _∙_}
 use native.Mathlib.Omega.{arith}
 use borrow.Author.Needs.{needs}

@@ -1,5 +1,4 @@
 -- `resolve::arena_bad` meets its contract.
--- Assumes nothing.
 use Rattle.resolve.proofs.Arena.{bad-base, bad-high, bad-long}
 use Rattle.resolve.proofs.arena_bad.Statement.{statement}
 use Rattle.resolve.proofs.arena_bad.Tie as tie

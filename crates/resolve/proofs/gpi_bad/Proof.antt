@@ -1,5 +1,4 @@
 -- `resolve::gpi_bad` meets its contract.
--- Assumes nothing.
 use borrow.Author.Needs.{needs}
 use Rattle.resolve.proofs.gpi_bad.Statement.{statement}
 use Rattle.resolve.proofs.gpi_bad.Tie as tie

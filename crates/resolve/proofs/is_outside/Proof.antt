@@ -1,5 +1,4 @@
 -- `resolve::is_outside` meets its contract: of an arena in order the end fits.
--- Assumes nothing.
 use native.Mathlib.Omega.{arith}
 use borrow.Author.Needs.{needs}
 use Rattle.resolve.proofs.Arena.{arena-fine, below, above}

@@ -1,5 +1,4 @@
 -- `resolve::l0_word` meets its contract: the index is below the entries, of which enough are lent.
--- Assumes nothing.
 use mathlib.Core.Path.{_≡_, ap, _∙_}
 use Prim.Native.Nat.{ℕ, _<_}
 use native.Mathlib.Nat.{lt-of-lt-of-le}

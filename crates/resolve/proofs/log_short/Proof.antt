@@ -1,5 +1,4 @@
 -- `resolve::log_short` meets its contract.
--- Assumes nothing.
 use borrow.Author.Needs.{needs}
 use Rattle.resolve.proofs.log_short.Statement.{statement}
 use Rattle.resolve.proofs.log_short.Tie as tie

@@ -1,5 +1,4 @@
 -- `resolve::site_at` meets its contract: each field by the index rule of that name.
--- Assumes nothing.
 use Prim.Native.Nat.{_-_, _/_}
 use borrow.Author.Needs.{needs}
 use Rattle.resolve.specs.Place.{siteOf}

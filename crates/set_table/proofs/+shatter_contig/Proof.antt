@@ -1,5 +1,4 @@
 -- The proof of the cycle of calls {shatter_contig} of the crate `set_table`. The measure is the size code: 3, 2, 1.
--- Assumes nothing.
 use mathlib.Core.Path.{_≡_, sym, _∙_}
 use Prim.Native.Nat.{ℕ, _<_}
 use borrow.Author.Needs.{needs}

@@ -1,5 +1,4 @@
 -- `set_table::break_up` meets its contract: the shatter, then its barriers.
--- Assumes nothing.
 use mathlib.Core.Path.{_∙_}
 use borrow.Author.Needs.{needs}
 use Rattle.l1.specs.Arm.{arm, levelOf}

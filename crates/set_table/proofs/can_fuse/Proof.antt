@@ -1,5 +1,4 @@
 -- `set_table::can_fuse` meets its contract. The loop keeps that what is left says the same as the whole.
--- Assumes nothing.
 use mathlib.Core.Path.{_≡_, sym, ap, _∙_}
 use Prim.Native.Nat.{ℕ, _+_, _-_, _≤_}
 use native.Mathlib.Nat.{div-mul-le-self, le-refl, add-sub-cancel-left}

@@ -1,5 +1,4 @@
 -- `set_table::cut_at` meets its contract: the part that holds the index lies in the whole.
--- Assumes nothing.
 use Prim.Native.Nat.{_*_, _≤_}
 use native.Mathlib.Nat.{div-mul-le-self}
 use native.Mathlib.Omega.{arith}

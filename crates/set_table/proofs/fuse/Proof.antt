@@ -1,5 +1,4 @@
 -- `set_table::fuse` meets its contract: a fill of the range that matched, or nothing.
--- Assumes nothing.
 use mathlib.Core.Path.{refl}
 use native.Mathlib.Omega.{arith}
 use borrow.Author.Needs.{needs}

@@ -1,5 +1,4 @@
 -- `set_table::fuse_descriptors` meets its contract. The loop keeps that the levels left say the same as all of them.
--- Assumes nothing.
 use mathlib.Core.Path.{_≡_, refl, sym, _∙_}
 use Prim.Native.Nat.{ℕ, _+_, _-_, _≤_}
 use native.Mathlib.Numerals.{add-one}

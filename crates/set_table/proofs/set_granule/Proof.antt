@@ -1,5 +1,4 @@
 -- `set_table::set_granule` meets its contract: the granule store, its barriers, the scans, the fuse.
--- Assumes nothing.
 use mathlib.Core.Path.{sym, _∙_}
 use native.Mathlib.Omega.{arith}
 use borrow.Author.Needs.{needs}

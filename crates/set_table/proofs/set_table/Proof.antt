@@ -1,5 +1,4 @@
 -- `set_table::set_table` meets its contract: an invalid entry changes nothing; a contiguous one is broken up first.
--- Assumes nothing.
 use mathlib.Core.Path.{refl, sym, ap, _∙_}
 use native.Mathlib.Omega.{arith}
 use borrow.Author.Needs.{needs}

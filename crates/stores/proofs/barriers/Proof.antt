@@ -1,5 +1,4 @@
 -- `stores::barriers` meets its contract: three records, and no store.
--- Assumes nothing.
 use mathlib.Core.Path.{refl, sym}
 use Prim.Native.Nat.{ℕ, _+_}
 use native.Mathlib.Nat.{add-zero}

@@ -1,5 +1,4 @@
 -- `stores::fill_descs` meets its contract. The loop keeps that exactly the first k words are stored.
--- Assumes nothing.
 use mathlib.Core.Path.{_≡_, refl}
 use Prim.Native.Nat.{_≤_, _-_}
 use native.Mathlib.Nat.{pos-of-ne-zero}

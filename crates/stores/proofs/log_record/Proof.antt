@@ -1,5 +1,4 @@
 -- `stores::log_record` meets its contract: four stores, one after the other.
--- Assumes nothing.
 use native.Mathlib.Omega.{arith}
 use native.Mathlib.Numerals.{add-one, add-two, add-three}
 use lib.ListN.{length-set}

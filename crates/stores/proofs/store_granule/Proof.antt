@@ -1,5 +1,4 @@
 -- `stores::store_granule` meets its contract: one store and its record.
--- Assumes nothing.
 use mathlib.Core.Path.{refl}
 use Rattle.theory.specs.Stores.{apply}
 use Rattle.theory.specs.Events.{granule}

@@ -1,5 +1,4 @@
 -- `cases::alike` is safe and ends: no more are counted than were passed.
--- Assumes nothing.
 use Prim.Native.Nat.{_≤_, _-_}
 use native.Mathlib.Omega.{arith}
 use borrow.Author.Needs.{needs}

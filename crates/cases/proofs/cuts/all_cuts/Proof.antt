@@ -1,5 +1,4 @@
 -- `cases::cuts` is safe and ends: no more are counted than were cut.
--- Assumes nothing.
 use Prim.Native.Nat.{_-_, _≤_}
 use native.Mathlib.Omega.{arith}
 use borrow.Author.Needs.{needs}

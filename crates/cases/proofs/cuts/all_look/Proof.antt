@@ -1,5 +1,4 @@
 -- `cases::all_look` is safe and ends.
--- Assumes nothing.
 use Prim.Native.Nat.{_-_, _≤_}
 use native.Mathlib.Omega.{arith}
 use borrow.Author.Needs.{needs}

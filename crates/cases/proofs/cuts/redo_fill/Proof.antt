@@ -1,5 +1,4 @@
 -- `cases::redo_fill` writes inside the arena and ends.
--- Assumes nothing.
 use mathlib.Core.Path.{_≡_, refl}
 use Prim.Native.Nat.{_+_, _-_, _≤_}
 use native.Mathlib.Omega.{arith}

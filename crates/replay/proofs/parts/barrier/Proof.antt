@@ -1,5 +1,4 @@
 -- `replay::barrier` is safe and ends: each turn has one record less before it.
--- Assumes nothing.
 use Prim.Native.Nat.{_-_, _≤_}
 use native.Mathlib.Omega.{arith}
 use borrow.Author.Needs.{needs}

@@ -1,5 +1,4 @@
 -- `replay::fill` is safe and ends: the end was tested to lie in the slice.
--- Assumes nothing.
 use mathlib.Core.Path.{_≡_, refl, sym, _∙_}
 use Prim.Native.Nat.{_-_}
 use native.Mathlib.Omega.{arith}

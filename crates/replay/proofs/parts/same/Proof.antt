@@ -1,5 +1,4 @@
 -- `replay::same` is safe and ends: the lengths were tested to be equal.
--- Assumes nothing.
 use Prim.Native.Nat.{_-_, _≤_}
 use native.Mathlib.Omega.{arith}
 use lib.ListN.{length}
