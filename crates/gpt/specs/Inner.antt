@@ -19,4 +19,4 @@ changedOf Invalid = Refused InvalidL1Entry
 -- what the set of the table at a site is asked
 abbrev pub setOn : Site → ℕ → Gpi → SetAt
 setOn s x g =
-    record { offset = s .start; index = s .index; granule = s .granule; unit = s .unit; gpi = g; address = pa x; bytes = s .grain }
+    record { offset = s .start; index = s .index; granule = s .granule; unit = s .unit; gpi = g; address = pa x; bytes = s .bytes }

@@ -60,7 +60,7 @@ refused r q L = record { answer = Refused r; left = q; log = L }
 
 -- what is set at a site: the granule of the address x, as it is given, to the GPI of number g
 abbrev pub targetAt : Site → ℕ → ℕ → Target
-targetAt s x g = record { word = s .index; granule = s .granule; gpi = g; address = x; bytes = s .grain }
+targetAt s x g = record { word = s .index; granule = s .granule; gpi = g; address = x; bytes = s .bytes }
 
 -- the events of a set at a site
 abbrev pub siteEvents : Lent → Site → ℕ → ℕ → List Event

@@ -109,7 +109,7 @@ fn set_site(arena: &mut [u64], log: &mut [u64], s: Site, address: PA, g: Gpi) ->
         unit: s.unit,
         gpi: g,
         address,
-        bytes: s.grain,
+        bytes: s.bytes,
     };
     let a = set_table::set_table(&mut arena[o..end], log, q);
     changed_by(a)

@@ -6,7 +6,7 @@ use Prim.Native.Nat.{ℕ, _<_, _≤_}
 use lib.Dec.{lit<}
 use lib.ListN.{length}
 use Rattle.theory.specs.Format.{reads, reading}
-use Rattle.theory.specs.Normal.{at, span, every, alike, widest, capped, build, normalWord, normal}
+use Rattle.theory.specs.Normal.{at, span, every, alike, largestAlike, normalUpTo, build, normalWord, normal}
 use Rattle.theory.specs.Stores.{apply, cut}
 use Rattle.theory.specs.Mend.{repairs, mending, mend, mendCount, mends, differing}
 use Rattle.theory.specs.Whole.{Whole}
@@ -36,7 +36,7 @@ stopped-root = stopped-not-whole arm arm-laws 2 (lit< tt) 10 refl
 -- ---- worked: what must open to be computed
 
 unfoldable opened : ℕ
-unfolding reads reading span every alike widest capped build normal apply cut repairs mending mend mendCount mends differing nibs l1Of
+unfolding reads reading span every alike largestAlike normalUpTo build normal apply cut repairs mending mend mendCount mends differing nibs l1Of
 opened = 0
 
 abbrev root : ℕ

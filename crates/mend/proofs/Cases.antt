@@ -6,7 +6,7 @@ use mathlib.Core.List.{List, [], _∷_}
 use Prim.Native.Nat.{ℕ}
 use lib.ListN.{replicate}
 use Rattle.theory.specs.Format.{reads}
-use Rattle.theory.specs.Normal.{span, every, alike, widest, capped}
+use Rattle.theory.specs.Normal.{span, every, alike, largestAlike, normalUpTo}
 use Rattle.theory.specs.Stores.{apply}
 use Rattle.theory.specs.Mend.{repairs, mending, mend, mendCount}
 use Rattle.granules.specs.Nibs.{nibs}
@@ -24,7 +24,7 @@ use Rattle.mend.specs.Outcome.{mendedNumber, mendedStores, checkedNumber
 
 -- what must open for a mend and a check to be computed
 unfoldable pub opened : ℕ
-unfolding nibs l0Of l1Of configuredOf arenaBad outside siteOf located placeOf reads span every alike widest capped apply repairs mending mend mendCount isNormal mendedAt mendOf checkedAt checkOf
+unfolding nibs l0Of l1Of configuredOf arenaBad outside siteOf located placeOf reads span every alike largestAlike normalUpTo apply repairs mending mend mendCount isNormal mendedAt mendOf checkedAt checkOf
 opened = 0
 
 -- ---- tables

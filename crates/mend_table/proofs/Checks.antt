@@ -10,7 +10,7 @@ use lib.Dec.{eqb}
 use lib.ListN.{length}
 use Rattle.gpi.specs.declared.Size.{Size}
 use Rattle.theory.specs.Format.{Format}
-use Rattle.theory.specs.Normal.{at, span, every, capped}
+use Rattle.theory.specs.Normal.{at, span, every, normalUpTo}
 use Rattle.l1.specs.Arm.{levelOf}
 use Rattle.mend_table.specs.declared.Want.{Want}
 use Rattle.mend_table.specs.declared.Test.the-variants.{Is}
@@ -37,7 +37,7 @@ module _ (F : Format) {u l p : ℕ} {t : List ℕ} where
       record {
         same =
             rw (f .same, g .same, k, add-mul p 1 (span u l))
-            (sym (every-add (λ i. eqb (at t i) (capped F u (at t) (suc l) i)) (p * span u l) (1 * span u l) ((n - 1) * span u l)));
+            (sym (every-add (λ i. eqb (at t i) (normalUpTo F u (at t) (suc l) i)) (p * span u l) (1 * span u l) ((n - 1) * span u l)));
       }
 
   pub first-right : {n : ℕ} {x y : Bool} → (n ≡ 0 → ⊥) → Fits F u l p 1 t x → x ≡ true → Fits F u l (p + 1) (n - 1) t y → Fits F u l p n t y

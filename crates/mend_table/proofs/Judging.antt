@@ -8,9 +8,9 @@ use Rattle.gpi.specs.declared.Gpi.{Gpi as AGpi}
 use Rattle.gpi.specs.declared.Size.{Size}
 use Rattle.gpi.specs.Gpi.{num}
 use Rattle.theory.specs.Format.{Format, Laws}
-use Rattle.theory.specs.Normal.{at, span, capped}
-use Rattle.theory.proofs.Levels.{capped-flat}
-use Rattle.theory.proofs.Onward.{words-single, words-mixed}
+use Rattle.theory.specs.Normal.{at, span, normalUpTo}
+use Rattle.theory.proofs.Levels.{normalUpTo-flat}
+use Rattle.theory.proofs.MendWalk.{words-single, words-mixed}
 use Rattle.l1.specs.Arm.{levelOf}
 use Rattle.mend_table.specs.declared.Want.{Want}
 use Rattle.mend_table.specs.declared.Want.the-variants.{Word, Flat}
@@ -35,7 +35,7 @@ module _ (F : Format) (L : Laws F) {u l p : ℕ} {t : List ℕ} (h : Lies u l p 
       }
 
   module _ (q : x ≡ Mixed) where
-    lower : (i : ℕ) → p * span u l ≤ i → i < p * span u l + span u l → capped F u (at t) (suc l) i ≡ capped F u (at t) l i
+    lower : (i : ℕ) → p * span u l ≤ i → i < p * span u l + span u l → normalUpTo F u (at t) (suc l) i ≡ normalUpTo F u (at t) l i
     lower =
         let o′ : OneIs F (at t) (p * span u l) (span u l) Mixed = rw (q, e) at o in
         words-mixed F L u (h .table .some) (at t) l (p * span u l) p refl o′
@@ -44,11 +44,11 @@ module _ (F : Format) (L : Laws F) {u l p : ℕ} {t : List ℕ} (h : Lies u l p 
     of-words z =
         record {
           below = tt;
-          words = λ i lo hi. lower i lo hi ∙ ap (λ (m : ℕ). capped F u (at t) m i) z ∙ capped-flat F L u (h .table .some) (at t) i;
+          words = λ i lo hi. lower i lo hi ∙ ap (λ (m : ℕ). normalUpTo F u (at t) m i) z ∙ normalUpTo-flat F L u (h .table .some) (at t) i;
         }
 
     pub of-parts : {s : Size} → l ≡ suc (levelOf s) → Judges F u l p (at t) (Parts s)
-    of-parts z = record { below = z; words = λ i lo hi. lower i lo hi ∙ ap (λ (m : ℕ). capped F u (at t) m i) z }
+    of-parts z = record { below = z; words = λ i lo hi. lower i lo hi ∙ ap (λ (m : ℕ). normalUpTo F u (at t) m i) z }
 
 -- ---- its use
 
@@ -59,15 +59,15 @@ module _ (F : Format) {u l p : ℕ} {r : ℕ → ℕ} (Q : (ℕ → ℕ) → ℕ
     (ext : (g h : ℕ → ℕ) (a n : ℕ) → ((i : ℕ) → a ≤ i → i < a + n → g i ≡ h i) → Q h a n → Q g a n)
     {x : Judged} (j : Judges F u l p r x) where
   pub by-words : {want : Want} {n : ℕ} → x ≡ Words want → n ≡ span u l → Q (λ i. wantedAt F want (r i)) (p * n) n
-      → Q (capped F u r (suc l)) (p * span u l) (1 * span u l)
+      → Q (normalUpTo F u r (suc l)) (p * span u l) (1 * span u l)
   by-words {want} q e w =
       let j′ : Judges F u l p r (Words want) = rw q at j in
-      rw (one-mul (span u l)) (ext (capped F u r (suc l)) (λ i. wantedAt F want (r i)) (p * span u l) (span u l) (j′ .words) (rw e at w))
+      rw (one-mul (span u l)) (ext (normalUpTo F u r (suc l)) (λ i. wantedAt F want (r i)) (p * span u l) (span u l) (j′ .words) (rw e at w))
 
-  pub by-parts : {s : Size} → x ≡ Parts s → Q (capped F u r (suc (levelOf s))) (p * 16 * span u (levelOf s)) (16 * span u (levelOf s))
-      → Q (capped F u r (suc l)) (p * span u l) (1 * span u l)
+  pub by-parts : {s : Size} → x ≡ Parts s → Q (normalUpTo F u r (suc (levelOf s))) (p * 16 * span u (levelOf s)) (16 * span u (levelOf s))
+      → Q (normalUpTo F u r (suc l)) (p * span u l) (1 * span u l)
   by-parts {s} q w =
       let j′ : Judges F u l p r (Parts s) = rw q at j in
       rw (one-mul (span u l))
-      (ext (capped F u r (suc l)) (capped F u r (suc (levelOf s))) (p * span u l) (span u l) (j′ .words)
+      (ext (normalUpTo F u r (suc l)) (normalUpTo F u r (suc (levelOf s))) (p * span u l) (span u l) (j′ .words)
       (rw (parts-from u (j′ .below) p, sixteen u (j′ .below)) at w))

@@ -8,7 +8,7 @@ use borrow.Author.Tests.{eqb-true, eq-eqb, ne-eqb}
 use lib.Dec.{eqb}
 use Rattle.theory.specs.Format.{Format, Laws, gpi, reads}
 use Rattle.theory.specs.Normal.{every}
-use Rattle.theory.specs.Onward.{single}
+use Rattle.theory.specs.Inner.{single}
 use Rattle.theory.proofs.Lists.{every-at, every-ext}
 use Rattle.theory.proofs.Normal.{reads-valid}
 use Rattle.mend_table.specs.declared.Test.the-variants.{Alike}

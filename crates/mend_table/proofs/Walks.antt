@@ -8,9 +8,9 @@ use native.Mathlib.Omega.{arith}
 use lib.ListN.{length}
 use Rattle.gpi.specs.declared.Size.{Size}
 use Rattle.theory.specs.Format.{Format, Laws}
-use Rattle.theory.specs.Normal.{at, span, capped}
-use Rattle.theory.specs.Onward.{walked, onward, Goes}
-use Rattle.theory.proofs.Onward.{onward-full, after, mended}
+use Rattle.theory.specs.Normal.{at, span, normalUpTo}
+use Rattle.theory.specs.Inner.{walked, mendWalk, Goes}
+use Rattle.theory.proofs.MendWalk.{mendWalk-full, after, mended}
 use Rattle.l1.specs.Arm.{arm, levelOf}
 use Rattle.mend_table.specs.declared.Want.{Want}
 use Rattle.mend_table.specs.declared.Judged.{Judged}
@@ -23,17 +23,17 @@ use Rattle.mend_table.proofs.Judging.{by-words, by-parts}
 -- only the words of the stretch count: a walk towards others that are the same there is the same walk
 goes-same : (k : ℕ) (t : List ℕ) (c : ℕ) (t₂ : List ℕ) (c₂ : ℕ) (g h : ℕ → ℕ) (a m : ℕ) → ((i : ℕ) → a ≤ i → i < a + m → g i ≡ h i)
     → Goes k h a m t c t₂ c₂ → Goes k g a m t c t₂ c₂
-unfolding onward
+unfolding mendWalk
 goes-same k t c t₂ c₂ g h a m e w = w ∙ sym (go m e)
   where
-    go : (m : ℕ) → ((i : ℕ) → a ≤ i → i < a + m → g i ≡ h i) → onward k g a m (walked t c) ≡ onward k h a m (walked t c)
+    go : (m : ℕ) → ((i : ℕ) → a ≤ i → i < a + m → g i ≡ h i) → mendWalk k g a m (walked t c) ≡ mendWalk k h a m (walked t c)
     go zero e = refl
     go (suc m) e = rw (go m (λ i lo hi. e i lo (omega arith)), e (a + m) (omega arith) (omega arith)) refl
 
 module _ (F : Format) {u l k p : ℕ} {t : List ℕ} {c : ℕ} where
   -- none yet, one more; and where no store is left
   pub none-yet : Mends F u l k p 0 t c t c
-  unfolding onward
+  unfolding mendWalk
   none-yet = record { goes = rw (zero-mul (span u l)) refl }
 
   pub one-more : {i : ℕ} {t₁ : List ℕ} {c₁ : ℕ} {t₂ : List ℕ} {c₂ : ℕ} → Laws F → 0 < u → l < 3 → Mends F u l k p i t c t₁ c₁
@@ -50,7 +50,7 @@ module _ (F : Format) {u l k p : ℕ} {t : List ℕ} {c : ℕ} where
   all-made {i} {n} b b′ g = let e : i ≡ n = omega arith in rw e at g
 
   pub full : {n : ℕ} → k ≤ c → Mends F u l k p n t c t c
-  full {n} f = record { goes = sym (onward-full k (capped F u (at t) (suc l)) (p * span u l) (n * span u l) (walked t c) f) }
+  full {n} f = record { goes = sym (mendWalk-full k (normalUpTo F u (at t) (suc l)) (p * span u l) (n * span u l) (walked t c) f) }
 
   -- a range as it is judged
   module _ {x : Judged} {t₂ : List ℕ} {c₂ : ℕ} (j : Judges F u l p (at t) x) where

@@ -9,8 +9,8 @@ use lib.Dec.{eqb}
 use lib.ListN.{length}
 use Rattle.gpi.specs.Gpi.{num}
 use Rattle.theory.specs.Format.{Format, gpi}
-use Rattle.theory.specs.Normal.{at, every, span, capped}
-use Rattle.theory.specs.Onward.{Goes, single}
+use Rattle.theory.specs.Normal.{at, every, span, normalUpTo}
+use Rattle.theory.specs.Inner.{Goes, single}
 use Rattle.l1.specs.Arm.{levelOf}
 use Rattle.mend_table.specs.declared.Want.{Want}
 use Rattle.mend_table.specs.declared.Want.the-variants.{Word, Flat}
@@ -49,7 +49,7 @@ OneIs F r a n Mixed = single F r a n ≡ false
 -- word i of a range so judged
 abbrev pub judgedWord : Format → ℕ → (ℕ → ℕ) → Judged → ℕ → ℕ
 judgedWord F u r (Words want) i = wantedAt F want (r i)
-judgedWord F u r (Parts s) i = capped F u r (suc (levelOf s)) i
+judgedWord F u r (Parts s) i = normalUpTo F u r (suc (levelOf s)) i
 
 -- the parts are of the next smaller size
 abbrev pub Below : ℕ → Judged → Type 0
@@ -59,12 +59,12 @@ Below l (Parts s) = l ≡ suc (levelOf s)
 -- the judgement x of range p: its normal words, as far as its level goes, are those of the judgement
 pub record Judges (F : Format) (u l p : ℕ) (r : ℕ → ℕ) (x : Judged) : Type 0 where
   pub below : Below l x
-  pub words : (i : ℕ) → p * span u l ≤ i → i < p * span u l + span u l → capped F u r (suc l) i ≡ judgedWord F u r x i
+  pub words : (i : ℕ) → p * span u l ≤ i → i < p * span u l + span u l → normalUpTo F u r (suc l) i ≡ judgedWord F u r x i
 
 -- the walk over n ranges from range p towards their normal words, with the limit k: from the table t with c stores made to t₂ and c₂
 pub record Mends (F : Format) (u l k p n : ℕ) (t : List ℕ) (c : ℕ) (t₂ : List ℕ) (c₂ : ℕ) : Type 0 where
-  pub goes : Goes k (capped F u (at t) (suc l)) (p * span u l) (n * span u l) t c t₂ c₂
+  pub goes : Goes k (normalUpTo F u (at t) (suc l)) (p * span u l) (n * span u l) t c t₂ c₂
 
 -- the answer b of the check on n ranges from range p: whether they are their normal words
 pub record Fits (F : Format) (u l p n : ℕ) (t : List ℕ) (b : Bool) : Type 0 where
-  pub same : b ≡ every (λ i. eqb (at t i) (capped F u (at t) (suc l) i)) (p * span u l) (n * span u l)
+  pub same : b ≡ every (λ i. eqb (at t i) (normalUpTo F u (at t) (suc l) i)) (p * span u l) (n * span u l)

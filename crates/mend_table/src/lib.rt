@@ -7,7 +7,7 @@ ghost use mathlib.Core.Path.{_≡_};
 ghost use Prim.Native.Nat.{_+_, _≤_, _<_, _*_};
 ghost use lib.ListN.{length};
 ghost use Rattle.theory.specs.Normal.{at, every};
-ghost use Rattle.theory.specs.Onward.{walked, step, Goes};
+ghost use Rattle.theory.specs.Inner.{walked, step, Goes};
 ghost use Rattle.l1.specs.Arm.{levelOf, arm};
 ghost use Rattle.mend_table.specs.declared.Test.the-variants.{Alike};
 ghost use Rattle.mend_table.specs.Inner.{wantedAt, passed, Lies, OneIs, Judges, Mends, Fits};

@@ -26,7 +26,7 @@ use Rattle.resolve.proofs.Promises.{resolved, neighbour}
 -- the site of the address y in the same table
 abbrev pub siteAt : Widths → Site → ℕ → Site
 siteAt w s y =
-    record { start = s .start; words = s .words; index = l1Index w y; granule = granuleIndex w y; unit = s .unit; grain = s .grain }
+    record { start = s .start; words = s .words; index = l1Index w y; granule = granuleIndex w y; unit = s .unit; bytes = s .bytes }
 
 -- x lies in a table, at the site s
 pub record Found (q : Lent) (x : ℕ) (w : Widths) (s : Site) : Type 0 where
@@ -39,7 +39,7 @@ pub record Found (q : Lent) (x : ℕ) (w : Widths) (s : Site) : Type 0 where
   pub index : s .index ≡ l1Index w x
   pub granule : s .granule ≡ granuleIndex w x
   pub unit : s .unit ≡ sizeWords w MB2
-  pub grain : s .grain ≡ granuleBytes w
+  pub bytes : s .bytes ≡ granuleBytes w
   -- every address that names the table lies in it
   pub place : (y : ℕ) → Names w x y → placed q y ≡ Table (siteAt w s y)
 
@@ -55,7 +55,7 @@ found q call x s e = (k .0, record {
   index = ap (λ (t : Site). t .index) (r .site);
   granule = ap (λ (t : Site). t .granule) (r .site);
   unit = unit;
-  grain = grain;
+  bytes = bytes;
   place = λ y n. neighbour (askOf q call x) (q .l0) (k .0) s y r (n .below) (n .entry) ∙ ap Table (same y);
 })
   where
@@ -71,14 +71,14 @@ found q call x s e = (k .0, record {
     unit : s .unit ≡ sizeWords (k .0) MB2
     unit = ap (λ (t : Site). t .unit) (r .site)
 
-    grain : s .grain ≡ granuleBytes (k .0)
-    grain = ap (λ (t : Site). t .grain) (r .site)
+    bytes : s .bytes ≡ granuleBytes (k .0)
+    bytes = ap (λ (t : Site). t .bytes) (r .site)
 
     start : (q .base + 8 * s .start - q .base) / 8 ≡ s .start
     start = omega arith
 
     same : (y : ℕ) → siteOf (askOf q Plain y) (k .0) (q .base + 8 * s .start) ≡ siteAt (k .0) s y
-    same y = rw (start, ← words, ← unit, ← grain) refl
+    same y = rw (start, ← words, ← unit, ← bytes) refl
 
 -- ---- another arena of the same length
 

@@ -39,7 +39,7 @@ siteOf q w a =
       index = l1Index w (q .address .0);
       granule = granuleIndex w (q .address .0);
       unit = sizeWords w MB2;
-      grain = granuleBytes w;
+      bytes = granuleBytes w;
     }
 
 -- the L1 table: these words of the arena

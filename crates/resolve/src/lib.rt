@@ -124,7 +124,7 @@ pub struct Site {
     pub granule: u64,
     // the words of 2 MB, and the bytes of a granule
     pub unit: usize,
-    pub grain: u64,
+    pub bytes: u64,
 }
 
 pub enum Place {
@@ -146,7 +146,7 @@ fn site_at(q: Ask, w: Widths, a: PA) -> Site
         index: config::l1_resolve(w, address),
         granule: config::granule_resolve(w, address),
         unit: config::size_words(w, Size::MB2),
-        grain: config::granule_bytes(w),
+        bytes: config::granule_bytes(w),
     }
 }
 

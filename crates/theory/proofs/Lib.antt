@@ -6,7 +6,7 @@
 --   Log     the log, read back from its words, tells the stores of the set
 --   Whole   normal tables are whole, whole tables agree, finished sets keep it and finished mends make it, stopped ones need not
 --   Arena   a table that stands in an arena: laid in its place, and stores made there
--- The code's proofs cite Stores and Events (lists of stores and events compose) and Onward (mend's loop). The rest serves these.
+-- The code's proofs cite Stores and Events (lists of stores and events compose) and MendWalk (mend's loop). The rest serves these.
 pub mod Lists
 pub mod Ranges
 pub mod Stores
@@ -15,7 +15,7 @@ pub mod Events
 pub mod Normal
 pub mod Levels
 pub mod Mend
-pub mod Onward
+pub mod MendWalk
 pub mod Shatter
 pub mod Set
 pub mod Cut

@@ -11,7 +11,7 @@ use lib.Dec.{eqb}
 use lib.ListN.{length, length-map, List·getD-map}
 use lib.Seq.{ext-getD}
 use Rattle.theory.specs.Format.{Format, Laws, gpi, reads}
-use Rattle.theory.specs.Normal.{at, span, base, In, alike, widest, capped, normalWord, normal}
+use Rattle.theory.specs.Normal.{at, span, base, In, alike, largestAlike, normalUpTo, normalWord, normal}
 use Rattle.theory.proofs.Lists.{and-left, and-right, every-at, every-of, every-ext, length-build, build-ext, at-build, map-at}
 use Rattle.theory.proofs.Lists.{map-length}
 use Rattle.theory.proofs.Ranges.{span-pos, in-of, in-self}
@@ -28,7 +28,7 @@ module _ (F : Format) where
       (cond (alike F r (span u 0) i g) (F .contig 0 g)
       (F .flat (r i)))))
       (r i)
-  unfolding capped widest
+  unfolding normalUpTo largestAlike
   normal-says u r i = refl
 
   pub reads-valid : (w g : ℕ) → reads F w g ≡ true → F .valid w ≡ true
@@ -67,38 +67,38 @@ module _ (F : Format) (L : Laws F) where
     unfolding alike
     same-alike n i g = every-ext (λ j. reads F (r j) g) (λ j. reads F (s j) g) (λ j. same-reads (r j) (s j) g (e j)) (base n i) n
 
-    same-widest : (i g n : ℕ) → widest F u r i g n ≡ widest F u s i g n
-    unfolding widest
+    same-widest : (i g n : ℕ) → largestAlike F u r i g n ≡ largestAlike F u s i g n
+    unfolding largestAlike
     same-widest i g zero = e i
     same-widest i g (suc l) = rw (same-alike (span u l) i g, same-widest i g l) refl
 
-    pub same-capped : (n i : ℕ) → capped F u r n i ≡ capped F u s n i
-    unfolding capped
+    pub same-capped : (n i : ℕ) → normalUpTo F u r n i ≡ normalUpTo F u s n i
+    unfolding normalUpTo
     same-capped n i = go (F .valid (r i)) refl (same-valid (r i) (s i) (e i))
       where
         go : (b : Bool) → F .valid (r i) ≡ b → F .valid (r i) ≡ F .valid (s i)
-            → cond (F .valid (r i)) (widest F u r i (gpi F (r i)) n) (r i) ≡ cond (F .valid (s i)) (widest F u s i (gpi F (s i)) n) (s i)
-        go true p q = rw (← q, p) (ap (λ w. widest F u r i (F .low w) n) (e i) ∙ same-widest i (gpi F (s i)) n)
+            → cond (F .valid (r i)) (largestAlike F u r i (gpi F (r i)) n) (r i) ≡ cond (F .valid (s i)) (largestAlike F u s i (gpi F (s i)) n) (s i)
+        go true p q = rw (← q, p) (ap (λ w. largestAlike F u r i (F .low w) n) (e i) ∙ same-widest i (gpi F (s i)) n)
         go false p q = rw (← q, p) (cc (L .flat-invalid (r i) p, L .flat-invalid (s i) (sym q ∙ p), e i))
 
   -- ---- a word of the first levels reads as the word does
 
   module _ (u : ℕ) (u-pos : 0 < u) (r : ℕ → ℕ) where
-    flat-widest : (i g n : ℕ) → n ≤ 3 → F .known g ≡ true → F .flat (widest F u r i g n) ≡ F .flat (r i)
-    unfolding widest
+    flat-widest : (i g n : ℕ) → n ≤ 3 → F .known g ≡ true → F .flat (largestAlike F u r i g n) ≡ F .flat (r i)
+    unfolding largestAlike
     flat-widest i g zero b k = L .flat-flat (r i)
     flat-widest i g (suc l) b k = go (alike F r (span u l) i g) refl (flat-widest i g l (omega arith) k)
       where
-        go : (t : Bool) → alike F r (span u l) i g ≡ t → F .flat (widest F u r i g l) ≡ F .flat (r i)
-            → F .flat (cond (alike F r (span u l) i g) (F .contig l g) (widest F u r i g l)) ≡ F .flat (r i)
+        go : (t : Bool) → alike F r (span u l) i g ≡ t → F .flat (largestAlike F u r i g l) ≡ F .flat (r i)
+            → F .flat (cond (alike F r (span u l) i g) (F .contig l g) (largestAlike F u r i g l)) ≡ F .flat (r i)
         go true p ih = rw p (L .flat-contig l g b k ∙ sym (alike-flat F r (span u l) i g p i (in-self (span u l) i (span-pos u l u-pos))))
         go false p ih = rw p ih
 
-    pub flat-capped : (n : ℕ) → n ≤ 3 → (i : ℕ) → F .flat (capped F u r n i) ≡ F .flat (r i)
-    unfolding capped
+    pub flat-capped : (n : ℕ) → n ≤ 3 → (i : ℕ) → F .flat (normalUpTo F u r n i) ≡ F .flat (r i)
+    unfolding normalUpTo
     flat-capped n b i = go (F .valid (r i)) refl
       where
-        go : (t : Bool) → F .valid (r i) ≡ t → F .flat (cond (F .valid (r i)) (widest F u r i (gpi F (r i)) n) (r i)) ≡ F .flat (r i)
+        go : (t : Bool) → F .valid (r i) ≡ t → F .flat (cond (F .valid (r i)) (largestAlike F u r i (gpi F (r i)) n) (r i)) ≡ F .flat (r i)
         go true p = rw p (flat-widest i (gpi F (r i)) n b (L .known-low (r i) p))
         go false p = rw p refl
 

@@ -23,7 +23,7 @@ use Rattle.theory.proofs.Lists.{length-build, at-build}
 use Rattle.theory.proofs.Stores.{each-of, apply-append, length-apply, apply-out, fill-in, fill-out}
 use Rattle.theory.proofs.Ranges.{span-pos, in-of, in-dec, in-sym, in-trans, in-le, in-table, in-self}
 use Rattle.theory.proofs.Normal.{length-normal, at-normal, normal-normal, alike-of}
-use Rattle.theory.proofs.Levels.{Ranged, capped-range, up-true}
+use Rattle.theory.proofs.Levels.{Ranged, normalUpTo-range, up-true}
 use Rattle.theory.proofs.Mend.{mends-then}
 use Rattle.theory.proofs.Shatter.{stores-fill, Shatters, shatter-each, shatter-range, flat-rep}
 use Rattle.theory.proofs.Set.{granuleStore, last, stores-set, broken-at, fusing-level}
@@ -75,7 +75,7 @@ module _ (F : Format) (L : Laws F) (u : ℕ) (u-pos : 0 < u) where
         go : (i l : ℕ) → i < length t → F .size (at t i) ≡ suc l → (k : ℕ) → In (span u l) i k → Same F (at t k) (at t i)
         go i l b e k h =
             let x : Ranged F L u u-pos (at t) 3 i l
-            = capped-range F L u u-pos (at t) 3 (omega arith) i l (L .size-valid (at t i) l e) (ap (F .size) (sym (word i b)) ∙ e) in
+            = normalUpTo-range F L u u-pos (at t) 3 (omega arith) i l (L .size-valid (at t i) l e) (ap (F .size) (sym (word i b)) ∙ e) in
             let k< : k < length t = in-table u u-pos t m regions i b l k (x .0) h in
             let i-in : In (span u l) i i = in-trans (span u l) i k i h (in-sym (span u l) i k (span-pos u l u-pos) h) in
             same-of (at t k) (at t i) (F .contig l (gpi F (at t i))) (word k k< ∙ x .2 k h) (word i b ∙ x .2 i i-in)

@@ -5,5 +5,5 @@ pub mod Arena
 pub mod Events
 pub mod Set
 pub mod Mend
-pub mod Onward
+pub mod Inner
 pub mod Whole

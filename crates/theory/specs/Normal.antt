@@ -35,17 +35,17 @@ unfoldable pub alike : Format → (ℕ → ℕ) → ℕ → ℕ → ℕ → Bool
 alike F r n i g = every (λ j. reads F (r j) g) (base n i) n
 
 -- the largest of the first n levels whose range is alike, as its contiguous word; else the sixteen granules
-unfoldable pub widest : Format → ℕ → (ℕ → ℕ) → ℕ → ℕ → ℕ → ℕ
-widest F u r i g zero = F .flat (r i)
-widest F u r i g (suc l) = cond (alike F r (span u l) i g) (F .contig l g) (widest F u r i g l)
+unfoldable pub largestAlike : Format → ℕ → (ℕ → ℕ) → ℕ → ℕ → ℕ → ℕ
+largestAlike F u r i g zero = F .flat (r i)
+largestAlike F u r i g (suc l) = cond (alike F r (span u l) i g) (F .contig l g) (largestAlike F u r i g l)
 
 -- the normal word as far as the first n levels go; an invalid word is kept
-unfoldable pub capped : Format → ℕ → (ℕ → ℕ) → ℕ → ℕ → ℕ
-capped F u r n i = cond (F .valid (r i)) (widest F u r i (gpi F (r i)) n) (r i)
+unfoldable pub normalUpTo : Format → ℕ → (ℕ → ℕ) → ℕ → ℕ → ℕ
+normalUpTo F u r n i = cond (F .valid (r i)) (largestAlike F u r i (gpi F (r i)) n) (r i)
 
 -- the normal word: all three
 abbrev pub normalWord : Format → ℕ → (ℕ → ℕ) → ℕ → ℕ
-normalWord F u r i = capped F u r 3 i
+normalWord F u r i = normalUpTo F u r 3 i
 
 -- the list of h at n indices from a
 unfoldable pub build : (ℕ → ℕ) → ℕ → ℕ → List ℕ

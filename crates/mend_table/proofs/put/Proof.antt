@@ -1,5 +1,5 @@
 -- Crate mend_table: `put` meets its contract.
-use Rattle.theory.proofs.Onward.{step-same, step-full, step-store}
+use Rattle.theory.proofs.MendWalk.{step-same, step-full, step-store}
 use borrow.Author.Needs.{needs}
 use Rattle.mend_table.proofs.put.Statement.{statement}
 use Rattle.mend_table.proofs.put.Tie as tie

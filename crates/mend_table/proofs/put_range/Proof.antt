@@ -4,8 +4,8 @@ use Prim.Native.Nat.{_-_, _≤_}
 use native.Mathlib.Omega.{arith}
 use lib.ListN.{length}
 use Rattle.theory.specs.Normal.{at}
-use Rattle.theory.specs.Onward.{Goes, onward}
-use Rattle.theory.proofs.Onward.{goes-on, goes-ahead, goes-end}
+use Rattle.theory.specs.Inner.{Goes, mendWalk}
+use Rattle.theory.proofs.MendWalk.{goes-on, goes-ahead, goes-end}
 use Rattle.l1.specs.Arm.{arm}
 use Rattle.mend_table.specs.Inner.{wantedAt}
 use Rattle.mend_table.proofs.put_range.Statement.{statement}
@@ -20,7 +20,7 @@ abbrev μ-loop : tie.MeasureT-loop
 μ-loop t₀ p n want limit made a d₀ i₀ t d i = n - i
 
 loop-holds : tie.Need-loop-holds Inv-loop μ-loop
-unfolding onward
+unfolding mendWalk
 loop-holds c = (omega arith, refl, refl)
 
 loop-again : tie.Need-loop-again Inv-loop μ-loop

@@ -15,7 +15,7 @@ returns c =
       index = c .before .before .before .l1-resolve .ensures i;
       granule = c .before .before .granule-resolve .ensures i;
       unit = c .before .size-words .ensures i;
-      grain = c .granule-bytes .ensures i;
+      bytes = c .granule-bytes .ensures i;
     }
 
 pub site-at-spec : {M : Type 1} → statement M

@@ -22,13 +22,13 @@ abbrev pub step : ℕ → (ℕ → ℕ) → ℕ → Walk → Walk
 step k h i s = cond (ltb (s .made) k && not (eqb (at (s .table) i) (h i))) (walked (set (s .table) i (h i)) (suc (s .made))) s
 
 -- m words from a
-unfoldable pub onward : ℕ → (ℕ → ℕ) → ℕ → ℕ → Walk → Walk
-onward k h a zero s = s
-onward k h a (suc m) s = step k h (a + m) (onward k h a m s)
+unfoldable pub mendWalk : ℕ → (ℕ → ℕ) → ℕ → ℕ → Walk → Walk
+mendWalk k h a zero s = s
+mendWalk k h a (suc m) s = step k h (a + m) (mendWalk k h a m s)
 
 -- what a routine does: from the table t with c stores made to t₂ and c₂
 abbrev pub Goes : ℕ → (ℕ → ℕ) → ℕ → ℕ → List ℕ → ℕ → List ℕ → ℕ → Type 0
-Goes k h a m t c t₂ c₂ = walked t₂ c₂ ≡ onward k h a m (walked t c)
+Goes k h a m t c t₂ c₂ = walked t₂ c₂ ≡ mendWalk k h a m (walked t c)
 
 -- what a routine asks of a range: n words from a are valid and of the lowest one's GPI
 unfoldable pub single : Format → (ℕ → ℕ) → ℕ → ℕ → Bool
