@@ -1,5 +1,5 @@
--- A set's answer and counts are small, whatever it is asked: at most 13 records, and each word of two ranges of 512 MB stored once, and the granule.
--- A mend stores at most the words of its table. So the packed number's parts don't run into one another.
+-- A set's answer and counts are small, whatever it is asked: at most 13 records, and each word of two ranges of 512 MB stored once, and the
+-- granule. A mend stores at most the words of its table. So the packed number's parts don't run into one another.
 use mathlib.Core.Path.{_≡_, refl}
 use mathlib.Core.Bool.{Bool, true, false}
 use mathlib.Core.List.{List, _∷_, _++_}
@@ -36,7 +36,7 @@ use Rattle.mend.specs.declared.Named.{Named}
 use Rattle.mend.specs.declared.Named.the-variants.{At, Refused as Unnamed}
 use Rattle.mend.specs.Outcome.{namedBy, mendedAt, mendOf}
 use Rattle.mend.proofs.Sites.{sited}
-use Rattle.abi.specs.Packed.{Small, Few}
+use Rattle.abi.specs.Inner.{Small, Few}
 
 -- ---- how many stores
 
@@ -52,7 +52,8 @@ module _ (F : Format) (L : Laws F) (u : ℕ) (h : u ≤ 32) (t : List ℕ) (q : 
   unfolding broken breaks brokenBarriers count
   broken-few = go (F .size (at t (q .word))) refl
     where
-      go : (s : ℕ) → F .size (at t (q .word)) ≡ s → count (breaks F u (gpi F (at t (q .word))) (q .word) s ++ brokenBarriers (q .address) s) ≤ 8192
+      go : (s : ℕ) → F .size (at t (q .word)) ≡ s
+          → count (breaks F u (gpi F (at t (q .word))) (q .word) s ++ brokenBarriers (q .address) s) ≤ 8192
       go zero e = omega arith
       go (suc l) e =
           simp (count-append, count-shatter F u (gpi F (at t (q .word))) (q .word) l)
@@ -74,8 +75,10 @@ module _ (F : Format) (L : Laws F) (u : ℕ) (h : u ≤ 32) (t : List ℕ) (q : 
   stores-few : count (setEvents F u t q) ≤ 16385
   unfolding setEvents storeEvents
   stores-few =
-      rw (count-append _ (fused F u (q .gpi) (q .word) (fusing F u t q)),
-        count-append _ (granule (q .word) (q .granule) (newWord F t q) ∷ barriers (q .address) (q .bytes)))
+      rw (
+        count-append _ (fused F u (q .gpi) (q .word) (fusing F u t q)),
+        count-append _ (granule (q .word) (q .granule) (newWord F t q) ∷ barriers (q .address) (q .bytes)),
+      )
       (omega (arith, broken-few, fused-few, store-few))
 
 -- ---- a set's

@@ -1,6 +1,6 @@
 -- The C interface's numbers: docs/ABI.md. What comes with an answer is packed with it into one number. Crate `abi`.
 use mathlib.Core.Bool.{cond}
-use Prim.Native.Nat.{ℕ, _+_, _*_, _≤_}
+use Prim.Native.Nat.{ℕ, _+_, _*_}
 use Rattle.gpt.specs.declared.Looked.{Looked}
 use Rattle.gpt.specs.Lookup.{lookedNumber, lookedGpi}
 use Rattle.gpt.specs.declared.Changed.{Changed}
@@ -24,13 +24,3 @@ mendedPacked m = mendedNumber m + 65536 * mendedStores m
 -- answer + 2^8 * (1 if normal; 0 if not, or refused)
 unfoldable pub checkedPacked : Checked → ℕ
 checkedPacked k = checkedNumber k + 256 * cond (checkedYes k) 1 0
-
--- each part within its place, so that none runs into the next (`set-small` of `abi` has it of every set)
-pub record Small (r : Changed) : Type 0 where
-  pub number : changedNumber r ≤ 10
-  pub records : changedRecords r ≤ 13
-  pub stores : changedStores r ≤ 16385
-
--- the same of a mend (`mend-small`): at most the words of the largest table
-abbrev pub Few : Mended → Type 0
-Few m = mendedStores m ≤ 8388608

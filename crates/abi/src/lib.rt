@@ -1,7 +1,8 @@
 // The C interface: docs/ABI.md. Each export packs what its call answers into one number; what it leaves is what the call leaves.
 ghost use mathlib.Core.Path.{_≡_};
 ghost use Prim.Native.Nat.{_+_, _*_, _<_, _≤_};
-ghost use Rattle.abi.specs.Packed.{lookedPacked, changedPacked, mendedPacked, checkedPacked, Small, Few};
+ghost use Rattle.abi.specs.Packed.{lookedPacked, changedPacked, mendedPacked, checkedPacked};
+ghost use Rattle.abi.specs.Inner.{Small, Few};
 ghost use Rattle.config.specs.Flags.{configOf};
 ghost use Rattle.resolve.specs.Lent.{lent};
 ghost use Rattle.gpt.specs.Lookup.{lookupOf};
@@ -78,7 +79,8 @@ pub extern "C" fn gpt_lookup(
     base: u64,
     address: u64,
 ) -> u64
-    ensures { λ r. ⌜ r ≡ lookedPacked (lookupOf (lent (configOf pps pgs l0gptsz flags) (now (l0 .entry)) (now (arena .entry)) base) address) ⌝ }
+    ensures { λ r. ⌜ r ≡ lookedPacked (lookupOf (lent (configOf pps pgs l0gptsz flags) (now (l0 .entry)) (now (arena .entry)) base)
+        address) ⌝ }
 {
     let c = config::from_flags(pps, pgs, l0gptsz, flags);
     pack_looked(gpt::lookup(c, l0, arena, PA(base), PA(address)))
@@ -98,7 +100,8 @@ pub extern "C" fn gpt_set(
     address: u64,
     gpi: u64,
 ) -> u64
-    ensures { λ r. ⌜ SetLeft (setOf (lent (configOf pps pgs l0gptsz flags) (now (l0 .entry)) (now (arena .entry)) base) (now (log .entry)) address gpi) r (now (arena .exit)) (now (log .exit)) ⌝ }
+    ensures { λ r. ⌜ SetLeft (setOf (lent (configOf pps pgs l0gptsz flags) (now (l0 .entry)) (now (arena .entry)) base) (now (log .entry))
+        address gpi) r (now (arena .exit)) (now (log .exit)) ⌝ }
 {
     let c = config::from_flags(pps, pgs, l0gptsz, flags);
     pack_changed(gpt::set(c, l0, arena, PA(base), log, PA(address), gpi))
@@ -117,7 +120,8 @@ pub extern "C" fn gpt_mend(
     address: u64,
     limit: u64,
 ) -> u64
-    ensures { λ r. ⌜ MendLeft (mendOf (lent (configOf pps pgs l0gptsz flags) (now (l0 .entry)) (now (arena .entry)) base) address limit) r (now (arena .exit)) ⌝ }
+    ensures { λ r. ⌜ MendLeft (mendOf (lent (configOf pps pgs l0gptsz flags) (now (l0 .entry)) (now (arena .entry)) base) address limit) r
+        (now (arena .exit)) ⌝ }
 {
     let c = config::from_flags(pps, pgs, l0gptsz, flags);
     pack_mended(mend::mend(c, l0, arena, PA(base), PA(address), limit))
@@ -135,7 +139,8 @@ pub extern "C" fn gpt_check(
     base: u64,
     address: u64,
 ) -> u64
-    ensures { λ r. ⌜ r ≡ checkedPacked (checkOf (lent (configOf pps pgs l0gptsz flags) (now (l0 .entry)) (now (arena .entry)) base) address) ⌝ }
+    ensures { λ r. ⌜ r ≡ checkedPacked (checkOf (lent (configOf pps pgs l0gptsz flags) (now (l0 .entry)) (now (arena .entry)) base)
+        address) ⌝ }
 {
     let c = config::from_flags(pps, pgs, l0gptsz, flags);
     pack_checked(mend::check(c, l0, arena, PA(base), PA(address)))

@@ -9,19 +9,7 @@ use pa::PA;
 
 // Base arrangement B, with L0GPTSZ and GPC as a case asks.
 pub fn fields(l0gptsz: u8, gpc: bool) -> Config {
-    Config {
-        pps: 0,
-        pgs: 1,
-        l0gptsz,
-        gpc,
-        sa: false,
-        nsp: false,
-        na6: false,
-        na7: false,
-        nso: false,
-        gdi: false,
-        gpc2: false,
-    }
+    config::from_flags(0, 1, l0gptsz, if gpc { 1 } else { 0 })
 }
 
 pub fn l0() -> [u64; 4]

@@ -21,7 +21,8 @@ span-size w h MB2 = refl
 span-size w h MB32 = sym (words-32 w h)
 span-size w h MB512 = sym (words-512 w h ∙ ap (λ (n : ℕ). 16 * n) (words-32 w h))
 
-pub agrees-01 : (w : Widths) → Listed w → (t : List ℕ) → ((k : ℕ) → at t k < 2 ^ 64) → (i : ℕ) → EntryAgrees w t i → Agrees arm (sizeWords w MB2) t i
+pub agrees-01 : (w : Widths) → Listed w → (t : List ℕ) → ((k : ℕ) → at t k < 2 ^ 64) → (i : ℕ) → EntryAgrees w t i
+    → Agrees arm (sizeWords w MB2) t i
 agrees-01 w h t b i a =
     record {
       agrees = λ l e k r.

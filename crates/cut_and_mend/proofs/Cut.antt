@@ -88,7 +88,8 @@ module _ {q : Lent} {log : List ℕ} {x g : ℕ} {w : Widths} {s : Site} {o : Ou
       let p = f .sited in
       ap (over q)
       (ap₂ (λ (n : ℕ) (l : List ℕ). cut k (q .arena) (readLog n l)) (h .made .records) (h .made .log-is)
-      ∙ arena-cut F L (s .unit) (p .unit-least) (q .arena) (s .start) (s .words) (p .fits) (p .regions .0) (p .regions .1) (targetAt s x g) (p .index)
+      ∙ arena-cut F L (s .unit) (p .unit-least) (q .arena) (s .start) (s .words) (p .fits) (p .regions .0) (p .regions .1) (targetAt s x g)
+      (p .index)
       log (h .long) k)
 
   -- The log's granule store stands where the set makes it.
@@ -171,7 +172,8 @@ module _ {q : Lent} {log : List ℕ} {x g : ℕ} {w : Widths} {s : Site} {o : Ou
         let below = below-same w (f .listed) x y e (f .below) in
         let i = same-indices w (f .listed) y x below (f .below) e in
         ap (λ (r : Lent). lookupOf r y) (cut-is k)
-        ∙ looks-new f (stored k) (length-stored k) y (record { below = below; entry = i .0 }) (h .gpi) (i .1 ∙ sym (f .index)) (i .2 ∙ sym (f .granule))
+        ∙ looks-new f (stored k) (length-stored k) y (record { below = below; entry = i .0 }) (h .gpi) (i .1 ∙ sym (f .index))
+        (i .2 ∙ sym (f .granule))
         (read-is (at (stored k) (s .index)) (s .granule) (f .sited .granule)
         ∙ ap readingOf (cut-target-new F L (tableIn q s) (targetAt s x g) (h .aimed) (s .unit) agrees k (omega (arith, lead-is)))
         ∙ ap (λ (n : ℕ). readingOf (some n)) (num-at g (h .gpi) (h .known)) ∙ reads-num (h .gpi))
@@ -190,7 +192,8 @@ module _ {q : Lent} {log : List ℕ} {x g : ℕ} {w : Widths} {s : Site} {o : Ou
     pub checked : (k y : ℕ) → Names w x y → checkOf (layIn q s (normalAfter k o q s x g)) y ≡ Yes
     checked k y n = normal-checked f (granules k) (length-normal F L (s .unit) (granules k) ∙ length-granules k) y n
 
-    pub the-one : (k y : ℕ) → Names w x y → (T : List ℕ) → map flat T ≡ granules k → checkOf (layIn q s T) y ≡ Yes → T ≡ normalAfter k o q s x g
+    pub the-one : (k y : ℕ) → Names w x y → (T : List ℕ) → map flat T ≡ granules k → checkOf (layIn q s T) y ≡ Yes
+        → T ≡ normalAfter k o q s x g
     the-one k y n T e v =
         let len : length T ≡ s .words = map-length flat T (granules k) (e ∙ sym (flat-granules k)) ∙ length-granules k in
         yes-table f T len y n v (granules k) (e ∙ sym (flat-granules k))

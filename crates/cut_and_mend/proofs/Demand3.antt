@@ -1,4 +1,5 @@
--- DEMAND 3, the theorem over the definitions of lookup, set, mend and check: `demand3` under the demand's own premises, `promise` under less.
+-- DEMAND 3, the theorem over the definitions of lookup, set, mend and check: `demand3` under the demand's own premises, `promise` under
+-- less.
 use mathlib.Core.Path.{_≡_, refl, sym, ap, _∙_}
 use mathlib.Core.List.{List}
 use Prim.Native.Nat.{ℕ, _+_, _<_, _^_}
@@ -24,7 +25,8 @@ use Rattle.cut_and_mend.proofs.Happened.{happened}
 use Rattle.cut_and_mend.proofs.Cut.{all-made, granule-store, outside, old, new, mended, checked, the-one}
 
 -- The theorem: only the table of the target must share no word with another entry's, and only the entry at the target must agree.
-pub promise : (q : Lent) (log : List ℕ) (x g : ℕ) → Answers0or10 (changedNumber (setOf q log x g .answer)) → Ready q x → Demand3 q x g (setOf q log x g)
+pub promise : (q : Lent) (log : List ℕ) (x g : ℕ) → Answers0or10 (changedNumber (setOf q log x g .answer)) → Ready q x
+    → Demand3 q x g (setOf q log x g)
 promise q log x g a ready =
     let p = happened q log x g a in
     let h = p .2 in
@@ -64,7 +66,8 @@ tables-ready q x t =
           (t .agree w e (l0Index w x) o i (l1Index w x) (l1-in w h x));
     }
 
--- "Take any tables where no two L0 entries' L1 tables share a word and each contiguous entry agrees with every entry in its range. Cut a set that
--- answers 0 or 10 after any number of its stores." The rest of the demand is the claim, `Demand3`.
-pub demand3 : (q : Lent) (log : List ℕ) (x g : ℕ) → Tables q → Answers0or10 (changedNumber (setOf q log x g .answer)) → Demand3 q x g (setOf q log x g)
+-- "Take any tables where no two L0 entries' L1 tables share a word and each contiguous entry agrees with every entry in its range. Cut a
+-- set that answers 0 or 10 after any number of its stores." The rest of the demand is the claim, `Demand3`.
+pub demand3 : (q : Lent) (log : List ℕ) (x g : ℕ) → Tables q → Answers0or10 (changedNumber (setOf q log x g .answer))
+    → Demand3 q x g (setOf q log x g)
 demand3 q log x g t a = promise q log x g a (tables-ready q x t)

@@ -1,4 +1,5 @@
--- What a set that answers 0 or 10 did: its address lies in a table, its GPI is known and supported, the entry is valid, and its events happened.
+-- What a set that answers 0 or 10 did: its address lies in a table, its GPI is known and supported, the entry is valid, and its events
+-- happened.
 use mathlib.Core.Path.{_≡_, refl, sym, ap, _∙_, subst}
 use mathlib.Core.Bool.{Bool, true, false}
 use mathlib.Core.List.{List}
@@ -32,7 +33,8 @@ use Rattle.resolve.proofs.Numbers.{refusal-number}
 use Rattle.resolve.proofs.Promises.{resolved, gpi-taken}
 use Rattle.resolve.proofs.Found.{Found, found, table-length}
 use Rattle.stores.specs.declared.Tally.{Tally}
-use Rattle.gpt.specs.Set.{Outcome, changedNumber, changedRecords, changedStores, changedBy, tallyOf, targetAt, siteEvents, siteSet, setAt, setOf}
+use Rattle.gpt.specs.Set.{Outcome, changedNumber, changedRecords, changedStores, changedBy}
+use Rattle.gpt.specs.Set.{tallyOf, targetAt, siteEvents, siteSet, setAt, setOf}
 use Rattle.cut_and_mend.specs.Demand3.{Answers0or10, answers-0, answers-10}
 
 -- the set's outcome o at the site s: the events that happened there
@@ -84,24 +86,27 @@ module _ (q : Lent) (log : List ℕ) (x : ℕ) where
       let f = found q (Set (length log) (gpiAt g)) x s place in
       let t = gpi-taken (q .config) (length log) (gpiAt g) (r .passed .gpi) in
       let e : Known (t .0) ≡ Known G = sym (t .1) ∙ known in
-      let e : t .0 ≡ G = cc in
-      (f .0, record {
-        found = f .1;
-        gpi = G;
-        known = known;
-        supported = rw e at (t .2);
-        long = ltb-false (length log) 52 (r .passed .long);
-        aimed =
-            record {
-              is-word = omega (arith, table-length (f .1), f .1 .sited .index);
-              is-granule = f .1 .sited .granule;
-              is-gpi = ap isKnown known;
-              is-valid = made .valid;
-            };
-        made = made;
-      })
+      let e : t .0 ≡ G = cc in (
+        f .0,
+        record {
+          found = f .1;
+          gpi = G;
+          known = known;
+          supported = rw e at (t .2);
+          long = ltb-false (length log) 52 (r .passed .long);
+          aimed =
+              record {
+                is-word = omega (arith, table-length (f .1), f .1 .sited .index);
+                is-granule = f .1 .sited .granule;
+                is-gpi = ap isKnown known;
+                is-valid = made .valid;
+              };
+          made = made;
+        },
+      )
 
-  pub happened : (g : ℕ) → Answers0or10 (changedNumber (setOf q log x g .answer)) → (w : Widths) × (s : Site) × Happened q log x g w s (setOf q log x g)
+  pub happened : (g : ℕ) → Answers0or10 (changedNumber (setOf q log x g .answer))
+      → (w : Widths) × (s : Site) × Happened q log x g w s (setOf q log x g)
   unfolding setOf setAt
   happened g a = go (gpiAt g) refl (placeFor q (Set (length log) (gpiAt g)) x) refl a
     where

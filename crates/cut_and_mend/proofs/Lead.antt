@@ -88,12 +88,18 @@ module _ (F : Format) (L : Laws F) (u : ℕ) (t : List ℕ) (q : Target) (o : �
   first-stores : length (stores first) ≡ lead F u t (q .word)
   unfolding lead
   first-stores =
-      rw (stores-append (broken F u t (q .word)) (brokenBarriers (q .address) (F .size (at t (q .word)))), stores-barriers (q .address) (F .size (at t (q .word))))
+      rw (
+        stores-append (broken F u t (q .word)) (brokenBarriers (q .address) (F .size (at t (q .word)))),
+        stores-barriers (q .address)
+            (F .size (at t (q .word))),
+      )
       (length-append (stores (broken F u t (q .word))) [] ∙ omega arith)
 
-  pub log-lead : (log : List ℕ) → 52 ≤ length log → storesBefore (length (setEvents F u t q)) (logged o 0 (setEvents F u t q) log) ≡ lead F u t (q .word)
+  pub log-lead : (log : List ℕ) → 52 ≤ length log
+      → storesBefore (length (setEvents F u t q)) (logged o 0 (setEvents F u t q) log) ≡ lead F u t (q .word)
   log-lead log long =
       rw (logged-front o (setEvents F u t q) log (omega (arith, at-most-13 F L u t q)))
       (ap (λ (es : List Event). storesBefore (length es) (records o es ++ drop (4 * length (setEvents F u t q)) log)) around
-      ∙ before o first rest (q .word) (q .granule) (newWord F t q) (drop (4 * length (setEvents F u t q)) log) (quiet-broken F u t (q .word) (q .address))
+      ∙ before o first rest (q .word) (q .granule) (newWord F t q) (drop (4 * length (setEvents F u t q)) log)
+      (quiet-broken F u t (q .word) (q .address))
       ∙ first-stores)

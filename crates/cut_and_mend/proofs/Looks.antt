@@ -72,7 +72,8 @@ module _ {q : Lent} {x : ℕ} {w : Widths} {s : Site} (f : Found q x w s) (T : L
         go (yes h) k = laid-before (s .start) (s .words) (q .arena) (f .sited .fits) T len (v .start + v .index) h
         go (no h) (yes k) =
             let i = g .sited .index in
-            absurd (d (sym (ready .apart w (f .configured) (s .start) (l0Index w y) (v .start) (v .start + v .index) (table-of f) (table-of g)
+            absurd (d (sym (ready .apart w (f .configured) (s .start) (l0Index w y) (v .start) (v .start + v .index) (table-of f)
+            (table-of g)
             (record { from = omega arith; to = omega (arith, f .words) }) (record { from = omega arith; to = omega (arith, g .words) }))))
         go (no h) (no k) = laid-after (s .start) (s .words) (q .arena) (f .sited .fits) T len (v .start + v .index) (omega arith)
 

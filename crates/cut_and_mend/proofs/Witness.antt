@@ -132,7 +132,10 @@ met =
           (λ k h. rw (getD-replicate {A = ℕ} 1024 k 0x3A1 0 h) (lit< tt));
       answer-0 = answers-0 (starred .c7 .number);
       tables-spoilt = tables spoilt (ap (λ (n : ℕ). 2 + n) (length-replicate {A = ℕ} 1022 0xAAAA_AAAA_AAAA_AAAA))
-          (λ i b. record { agrees = λ g s e. absurd (each-word (λ v. (g : Gpi) (s : Size) → l1Of v ≡ Contiguous g s → ⊥) 0xAAAA_AAAA_AAAA_AAAA 0x2 0xAAAA_AAAA_AAAA_AAAA 1022 flat-a flat-2 flat-a i b g s e) })
+          (λ i b. record {
+            agrees = λ g s e. absurd (each-word (λ v. (g : Gpi) (s : Size) → l1Of v ≡ Contiguous g s → ⊥)
+                0xAAAA_AAAA_AAAA_AAAA 0x2 0xAAAA_AAAA_AAAA_AAAA 1022 flat-a flat-2 flat-a i b g s e);
+          })
           (each-word (λ v. v < 2 ^ 64) 0xAAAA_AAAA_AAAA_AAAA 0x2 0xAAAA_AAAA_AAAA_AAAA 1022 (lit< tt) (lit< tt) (lit< tt));
       answer-10 = answers-10 spoilt-number;
     }

@@ -1,5 +1,5 @@
--- Demand 3: a set cut after any number of its stores, and mends of what the cut left. The premises and the claim, over the definitions that the
--- contracts of lookup, set, mend and check cite; `proofs/Demand3` has the theorem. The demand's words are quoted where they are said.
+-- Demand 3: a set cut after any number of its stores, and mends of what the cut left. The premises and the claim, over the definitions that
+-- the contracts of lookup, set, mend and check cite; `proofs/Demand3` has the theorem. The demand's words are quoted where they are said.
 use mathlib.Core.Path.{_≡_}
 use mathlib.Core.Logic.{_≢_}
 use mathlib.Core.Bool.{cond}
@@ -42,8 +42,8 @@ pub data Answers0or10 (n : ℕ) : Type 0 where
   answers-0 : n ≡ 0 → Answers0or10 n
   answers-10 : n ≡ 10 → Answers0or10 n
 
--- the L0 entry e names an L1 table, and it lies wholly inside the arena, from its word o on. A table that doesn't has no word that a call reads
--- or writes: lookups, sets and mends there are refused (8).
+-- the L0 entry e names an L1 table, and it lies wholly inside the arena, from its word o on. A table that doesn't has no word that a call
+-- reads or writes: lookups, sets and mends there are refused (8).
 pub record TableAt (w : Widths) (q : Lent) (e o : ℕ) : Type 0 where
   pub entry : e < l0Entries w
   pub names : l0Of (getD (q .l0) e 0) ≡ TableWord (pa (q .base + 8 * o))
@@ -58,14 +58,14 @@ pub record Holds (w : Widths) (o k : ℕ) : Type 0 where
 pub record Apart (w : Widths) (q : Lent) : Type 0 where
   pub apart : (e f o p k : ℕ) → TableAt w q e o → TableAt w q f p → Holds w o k → Holds w p k → e ≡ f
 
--- "each contiguous entry agrees with every entry in its range", by document 01: "A contiguous entry agrees if every word in its aligned range is
--- valid and reads its GPI in all sixteen granules". The entry at i of the table t.
+-- "each contiguous entry agrees with every entry in its range", by document 01: "A contiguous entry agrees if every word in its aligned
+-- range is valid and reads its GPI in all sixteen granules". The entry at i of the table t.
 pub record EntryAgrees (w : Widths) (t : List ℕ) (i : ℕ) : Type 0 where
   pub agrees : (g : Gpi) (s : Size) → l1Of (at t i) ≡ Contiguous g s → (k : ℕ) → In (sizeWords w s) i k
       → (n : ℕ) → n < 16 → readAt (at t k) n ≡ Known g
 
--- "Take any tables where no two L0 entries' L1 tables share a word and each contiguous entry agrees with every entry in its range." Words are of
--- 64 bits, as every lent word is.
+-- "Take any tables where no two L0 entries' L1 tables share a word and each contiguous entry agrees with every entry in its range." Words
+-- are of 64 bits, as every lent word is.
 pub record Tables (q : Lent) : Type 0 where
   pub apart : (w : Widths) → configuredOf (q .config) ≡ Ok w → Apart w q
   pub agree : (w : Widths) → configuredOf (q .config) ≡ Ok w → (e o : ℕ) → TableAt w q e o → (i : ℕ) → i < l1Words w
@@ -81,7 +81,8 @@ pub record Ready (q : Lent) (x : ℕ) : Type 0 where
 
 -- ---- THE CUT
 
--- "Cut a set … after any number of its stores": what was lent, with the first k stores made that the log tells, read back from the log's words
+-- "Cut a set … after any number of its stores": what was lent, with the first k stores made that the log tells, read back from the log's
+-- words
 abbrev pub cutAfter : ℕ → Lent → Outcome → Lent
 cutAfter k q o = over q (cut k (q .arena) (readLog (changedRecords (o .answer)) (o .log)))
 
@@ -95,11 +96,12 @@ storesBefore (suc n) l =
 abbrev pub granuleStoreAfter : Outcome → ℕ
 granuleStoreAfter o = storesBefore (changedRecords (o .answer)) (o .log)
 
--- "of the old granules if the cut came before the granule store, else of the new": the flat words of the site's table as it was lent, or these
--- with the granule of the address x made g
+-- "of the old granules if the cut came before the granule store, else of the new": the flat words of the site's table as it was lent, or
+-- these with the granule of the address x made g
 abbrev pub granulesAfter : ℕ → Outcome → Lent → Site → ℕ → ℕ → List ℕ
 granulesAfter k o q s x g =
-    cond (leb k (granuleStoreAfter o)) (map (formatOf (q .config) .flat) (tableIn q s)) (changedFlat (formatOf (q .config)) (tableIn q s) (targetAt s x g))
+    cond (leb k (granuleStoreAfter o)) (map (formatOf (q .config) .flat) (tableIn q s))
+    (changedFlat (formatOf (q .config)) (tableIn q s) (targetAt s x g))
 
 -- "the one normal table" of these granules
 abbrev pub normalAfter : ℕ → Outcome → Lent → Site → ℕ → ℕ → List ℕ
@@ -107,8 +109,8 @@ normalAfter k o q s x g = normal (formatOf (q .config)) (s .unit) (granulesAfter
 
 -- ---- THE CLAIM
 
--- of a set of the address x to the GPI of number g that was lent q and left the outcome o. At every k: k stores are made. What lookups, mends and
--- checks are lent after it is q with another arena.
+-- of a set of the address x to the GPI of number g that was lent q and left the outcome o. At every k: k stores are made. What lookups,
+-- mends and checks are lent after it is q with another arena.
 pub record Demand3 (q : Lent) (x g : ℕ) (o : Outcome) : Type 0 where
   -- the configuration's widths, and the target's place: it lies in an L1 table
   pub widths : Widths
@@ -121,15 +123,16 @@ pub record Demand3 (q : Lent) (x g : ℕ) (o : Outcome) : Type 0 where
   -- "Every address outside the target granule looks up as before": every address, and the whole answer, refusals included
   pub outside : (k y : ℕ) → y / granuleBytes widths ≢ x / granuleBytes widths → lookupOf (cutAfter k q o) y ≡ lookupOf q y
   -- "the target answers old before the granule store,"
-  pub old : (k y : ℕ) → y / granuleBytes widths ≡ x / granuleBytes widths → k ≤ granuleStoreAfter o → lookupOf (cutAfter k q o) y ≡ lookupOf q y
+  pub old : (k y : ℕ) → y / granuleBytes widths ≡ x / granuleBytes widths → k ≤ granuleStoreAfter o
+      → lookupOf (cutAfter k q o) y ≡ lookupOf q y
   -- "new from it on": the number 0, and g
   pub new-number : (k y : ℕ) → y / granuleBytes widths ≡ x / granuleBytes widths → granuleStoreAfter o < k
       → lookedNumber (lookupOf (cutAfter k q o) y) ≡ 0
   pub new-gpi : (k y : ℕ) → y / granuleBytes widths ≡ x / granuleBytes widths → granuleStoreAfter o < k
       → lookedGpi (lookupOf (cutAfter k q o) y) ≡ g
-  -- "A mend of the target's L1 table then gives, byte for byte, the one normal table: of the old granules if the cut came before the granule
-  -- store, else of the new; also if mends are cut anywhere and run again": after mends of any limits, one whose limit is at least the table's
-  -- words. The rest of the arena is the lent one.
+  -- "A mend of the target's L1 table then gives, byte for byte, the one normal table: of the old granules if the cut came before the
+  -- granule store, else of the new; also if mends are cut anywhere and run again": after mends of any limits, one whose limit is at least
+  -- the table's words. The rest of the arena is the lent one.
   pub mended : (k : ℕ) (ms : List Mend) (m : Mend) → AllName widths x (ms ++ m ∷ []) → l1Words widths ≤ m .limit
       → Mending (cutAfter k q o) (ms ++ m ∷ []) (layIn q site (normalAfter k o q site x g))
   -- the check says yes to it,

@@ -6,19 +6,22 @@ use Prim.Native.Nat.{ℕ, _/_}
 use borrow.Author.Tests.{eqb-true}
 use lib.Dec.{ltb}
 use lib.ListN.{getD}
-use Rattle.gpi.specs.declared.Gpi.the-variants.{NoAccess, SystemAgent, NonSecureProtected, NoAccess6, NoAccess7, Secure, NonSecure, Root, Realm, NonSecureOnly, Any}
+use Rattle.gpi.specs.declared.Gpi.the-variants.{NoAccess, SystemAgent, NonSecureProtected, NoAccess6, NoAccess7}
+use Rattle.gpi.specs.declared.Gpi.the-variants.{Secure, NonSecure, Root, Realm, NonSecureOnly, Any}
 use Rattle.gpi.specs.declared.Nibble.{Nibble}
 use Rattle.gpi.specs.declared.Nibble.the-variants.{Known, Reserved}
 use Rattle.gpi.specs.Gpi.{gpiAt}
 use Rattle.resolve.specs.declared.Refusal.{Refusal}
-use Rattle.resolve.specs.declared.Refusal.the-variants.{InvalidConfiguration, GptNotInitialized, FewL0Words, BadArena, ShortLog, InvalidRequest, InvalidL0Entry, OutsideArena, InvalidL1Entry}
+use Rattle.resolve.specs.declared.Refusal.the-variants.{InvalidConfiguration, GptNotInitialized, FewL0Words, BadArena}
+use Rattle.resolve.specs.declared.Refusal.the-variants.{ShortLog, InvalidRequest, InvalidL0Entry, OutsideArena, InvalidL1Entry}
 use Rattle.gpt.specs.declared.Looked.{Looked}
 use Rattle.gpt.specs.declared.Looked.the-variants.{Ok, Refused}
 use Rattle.dump_runs.specs.Runs.{codeOf, alike}
 
 -- the answer of a number
 abbrev refusals : List Refusal
-refusals = InvalidConfiguration ∷ InvalidConfiguration ∷ GptNotInitialized ∷ FewL0Words ∷ BadArena ∷ ShortLog ∷ InvalidRequest ∷ InvalidL0Entry ∷ OutsideArena ∷ InvalidL1Entry ∷ []
+refusals = InvalidConfiguration ∷ InvalidConfiguration ∷ GptNotInitialized ∷ FewL0Words ∷ BadArena ∷ ShortLog ∷ InvalidRequest ∷
+    InvalidL0Entry ∷ OutsideArena ∷ InvalidL1Entry ∷ []
 
 abbrev granted : Nibble → Looked
 granted (Known g) = Ok g

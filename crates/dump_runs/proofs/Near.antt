@@ -22,7 +22,8 @@ use Rattle.resolve.specs.Inner.{onward}
 use Rattle.resolve.proofs.Chain.{through}
 use Rattle.gpt.specs.Lookup.{lookedAt, lookupOf}
 use Rattle.dump_runs.specs.declared.Piece.{Piece}
-use Rattle.dump_runs.specs.Runs.{total, Open, Holds}
+use Rattle.dump_runs.specs.Runs.{total}
+use Rattle.dump_runs.specs.Inner.{Open, Holds}
 use Rattle.dump_runs.proofs.Stretch.{lastOf, last-from, last-same, last-inside, below-52, placed}
 
 -- the bits of the aligned stretch that a place speaks for
@@ -65,11 +66,13 @@ module _ (Q : Lent) (w : Widths) (o : Open Q w) where
         let k = listed in
         let i : l0Index w x ≡ l0Index w a = placed a x (w .pgs) e (w .l0gptsz) (w .pps) (omega arith) (omega arith) in
         placed-by x l
-        ∙ (λ j. entered (l0Of (getD (Q .l0) (i j) 0)) (λ t. cond (outside (Q .base) (length (Q .arena)) t (l1Words w)) (Nowhere OutsideArena) (Table (same-site e t j))))
+        ∙ (λ j. entered (l0Of (getD (Q .l0) (i j) 0)) (λ t. cond (outside (Q .base) (length (Q .arena)) t (l1Words w))
+        (Nowhere OutsideArena) (Table (same-site e t j))))
         ∙ sym (placed-by a h)
 
     -- one L0 entry, whose stretch is asked for where it is no table
-    pub same-entry : x / 2 ^ (w .l0gptsz) ≡ a / 2 ^ (w .l0gptsz) → (p : Place) → placeFor Q Plain a ≡ p → bitsOf w p ≡ w .l0gptsz → w .pgs < w .l0gptsz
+    pub same-entry : x / 2 ^ (w .l0gptsz) ≡ a / 2 ^ (w .l0gptsz) → (p : Place) → placeFor Q Plain a ≡ p → bitsOf w p ≡ w .l0gptsz
+        → w .pgs < w .l0gptsz
         → placeFor Q Plain x ≡ p
     same-entry e p f g z =
         placed-by x l ∙ ap (λ (j : ℕ). entry x (l0Of (getD (Q .l0) j 0))) i ∙ go (word a) (sym (placed-by a h) ∙ f)
@@ -77,7 +80,8 @@ module _ (Q : Lent) (w : Widths) (o : Open Q w) where
         i : l0Index w x ≡ l0Index w a
         i = let k = listed in placed a x (w .l0gptsz) e (w .l0gptsz) (w .pps) (omega arith) (omega arith)
 
-        table : (t : ℕ) (q : Bool) → cond q (Nowhere OutsideArena) (Table (siteOf (askOf Q Plain a) w t)) ≡ p → cond q (Nowhere OutsideArena) (Table (siteOf (askOf Q Plain x) w t)) ≡ p
+        table : (t : ℕ) (q : Bool) → cond q (Nowhere OutsideArena) (Table (siteOf (askOf Q Plain a) w t)) ≡ p
+            → cond q (Nowhere OutsideArena) (Table (siteOf (askOf Q Plain x) w t)) ≡ p
         table t true q = q
         table t false q = absurd (let y : w .pgs ≡ w .l0gptsz = ap (bitsOf w) q ∙ g in omega arith)
 
@@ -95,7 +99,8 @@ module _ (Q : Lent) (w : Widths) (o : Open Q w) where
 
   module _ (a : ℕ) (h : a < total w) where
     same-place : (x : ℕ) → a ≤ x → x < total w → (p : Place) → placeFor Q Plain a ≡ p → x ≤ lastOf a (bitsOf w p) → placeFor Q Plain x ≡ p
-    same-place x i l (Nowhere r) f j = let k = listed in same-entry a x h l (last-same a (w .l0gptsz) x i j) (Nowhere r) f refl (omega arith)
+    same-place x i l (Nowhere r) f j =
+        let k = listed in same-entry a x h l (last-same a (w .l0gptsz) x i j) (Nowhere r) f refl (omega arith)
     same-place x i l (Block g) f j = let k = listed in same-entry a x h l (last-same a (w .l0gptsz) x i j) (Block g) f refl (omega arith)
     same-place x i l (Table s) f j = same-granule a x h l (last-same a (w .pgs) x i j) ∙ f
 
@@ -103,7 +108,8 @@ module _ (Q : Lent) (w : Widths) (o : Open Q w) where
     low = let k = listed in (below-52 a (w .pps) pps-most h, omega arith, omega arith)
 
     -- by the place of a: what a lookup answers there, to the last address that the place speaks for
-    pub piece : {p : Piece} (q : Place) → placeFor Q Plain a ≡ q → p .answer ≡ lookedAt Q q → p .last ≡ lastOf a (bitsOf w q) → Holds (lookupOf Q) (total w) a p
+    pub piece : {p : Piece} (q : Place) → placeFor Q Plain a ≡ q → p .answer ≡ lookedAt Q q → p .last ≡ lastOf a (bitsOf w q)
+        → Holds (lookupOf Q) (total w) a p
     unfolding lookupOf
     piece {p} q g e f =
         let i : lastOf a (bitsOf w q) < total w = last-inside a (bitsOf w q) (w .pps) (bits-most q) h in

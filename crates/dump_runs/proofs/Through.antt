@@ -20,7 +20,7 @@ use Rattle.gpt.specs.Lookup.{judged, lookedAt, lookupOf}
 use Rattle.view.specs.declared.Held.{Held}
 use Rattle.view.specs.Reads.{heldBy, heldAt}
 use Rattle.view.proofs.Spots.{taken-width, held-of-address}
-use Rattle.dump_runs.specs.Runs.{answerOf}
+use Rattle.dump_runs.specs.Inner.{answerOf}
 
 -- a granule's answer by what the view holds
 by-reading : (c : Config) (r : Reading) → answerOf c (heldBy r) ≡ judged c r
@@ -45,7 +45,8 @@ module _ (q : Lent) (x : ℕ) (w : Widths) (o : configuredOf (q .config) ≡ Tak
       ∙ ap₂ (λ (m h : ℕ). judged (q .config) (readAt (getD t m 0) h)) (sym (f .index)) (sym (f .granule)))
 
   -- as `piece_at` has it: the table's length and the distance as they were computed
-  pub answered : {r : Looked} {h : Held} {n d : ℕ} → r ≡ answerOf (q .config) h → h ≡ heldAt (take n (drop (s .start) (q .arena))) (w .pgs) d
+  pub answered : {r : Looked} {h : Held} {n d : ℕ} → r ≡ answerOf (q .config) h
+      → h ≡ heldAt (take n (drop (s .start) (q .arena))) (w .pgs) d
       → n ≡ s .words → d ≡ x % 2 ^ (w .l0gptsz) → r ≡ lookedAt q (Table s)
   unfolding lookupOf
   answered i j k l =

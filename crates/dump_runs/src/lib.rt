@@ -3,7 +3,8 @@ ghost use mathlib.Core.Path.{_≡_};
 ghost use Prim.Native.Nat.{_+_, _-_, _*_, _/_, _%_, _^_, _≤_, _<_};
 ghost use Rattle.resolve.specs.Lent.{lent};
 ghost use Rattle.gpt.specs.Lookup.{lookupOf};
-ghost use Rattle.dump_runs.specs.Runs.{codeOf, answerOf, total, Open, Holds, First};
+ghost use Rattle.dump_runs.specs.Runs.{codeOf, total};
+ghost use Rattle.dump_runs.specs.Inner.{answerOf, Open, Holds, First};
 use config::Config;
 use config::Widths;
 use dump_lines::Run;
@@ -57,8 +58,8 @@ fn last_of(a: u64, k: u64) -> u64
     a / n * n + (n - 1)
 }
 
-// The aligned stretch around an address that surely answers alike: a granule of a table, whose answer is read through the table's view, else the
-// whole L0 entry.
+// The aligned stretch around an address that surely answers alike: a granule of a table, whose answer is read through the table's view,
+// else the whole L0 entry.
 fn piece_at(c: Config, l0: &[u64], arena: &[u64], base: PA, w: Widths, a: u64) -> Piece
     requires { ⌜ Open (lent c (now l0) (now arena) (base .0)) w ⌝ }
     requires { ⌜ a < total w ⌝ }

@@ -18,7 +18,7 @@ use Rattle.resolve.specs.Refusals.{arenaBad}
 use Rattle.resolve.specs.Place.{located, placeOf, configured}
 use Rattle.resolve.specs.Lent.{Lent}
 use Rattle.gpt.specs.Lookup.{lookedNumber, lookedAt, lookupOf}
-use Rattle.dump_runs.specs.Runs.{Open}
+use Rattle.dump_runs.specs.Inner.{Open}
 use Rattle.dump_text.specs.declared.Opening.the-variants.{Shown, Refused}
 use Rattle.dump_text.specs.Text.{shuts, openingBy, openingOf, firstNumber, refusedLine}
 use Rattle.dump_text.specs.Chunks.{oneStep, openSteps, shownSteps, tableSteps}

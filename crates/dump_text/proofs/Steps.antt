@@ -29,7 +29,8 @@ use Rattle.dump_image.specs.Image.{readOf, faultNumber, l0Words, arenaWords}
 use Rattle.dump_lines.specs.declared.Run.{Run}
 use Rattle.dump_lines.specs.Lines.{ascii, header, line, told}
 use Rattle.dump_lines.proofs.Lengths.{short-dec, length-name, length-line, length-header, length-told}
-use Rattle.dump_runs.specs.Runs.{from, total, First}
+use Rattle.dump_runs.specs.Runs.{from, total}
+use Rattle.dump_runs.specs.Inner.{First}
 use Rattle.dump_runs.proofs.Walk.{some-run, none-left}
 use Rattle.dump_text.specs.declared.Opening.{Opening}
 use Rattle.dump_text.specs.declared.Opening.the-variants.{Shown, Refused}

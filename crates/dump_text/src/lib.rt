@@ -5,7 +5,7 @@ ghost use lib.ListN.{length};
 ghost use Rattle.resolve.specs.Lent.{lent};
 ghost use Rattle.gpt.specs.Lookup.{lookedNumber, lookupOf};
 ghost use Rattle.dump_lines.specs.Lines.{told};
-ghost use Rattle.dump_runs.specs.Runs.{Open};
+ghost use Rattle.dump_runs.specs.Inner.{Open};
 ghost use Rattle.dump_text.specs.Text.{openingOf, lentBy};
 ghost use Rattle.dump_text.specs.Chunks.{oneStep, openSteps, tableSteps, dumpSteps, Chunked};
 use config::Config;
@@ -154,7 +154,8 @@ fn opens(c: Config, n: u64) -> Opening
 
 // The text of tables that a caller has, from a place on, as much of it as fits.
 pub fn table_chunk(c: Config, l0: &[u64], arena: &[u64], base: PA, at: u64, out: &mut [u8]) -> Chunk
-    ensures { λ r. ⌜ Chunked (tableSteps (lent c (now (l0 .entry)) (now (arena .entry)) (base .0))) at 0 (now (out .entry)) (now (out .exit)) r ⌝ }
+    ensures { λ r. ⌜ Chunked (tableSteps (lent c (now (l0 .entry)) (now (arena .entry)) (base .0))) at 0 (now (out .entry))
+        (now (out .exit)) r ⌝ }
 {
     let n = number(gpt::lookup(c, l0, arena, base, PA(0)));
     match opens(c, n) {

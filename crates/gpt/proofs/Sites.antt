@@ -62,7 +62,8 @@ module _ (A L : List ℕ) {s : Site} (x : ℕ) (g : Gpi) (h : Sited (length A) s
       }
 
   -- the answer by what the scans came to, and the tally of events that started from none
-  answer-is : (f : Fused) (es : List Event) (a : Tally) → a .records ≡ length es → a .stores ≡ count es → changedOf (answerOf f a) ≡ changedBy f (tallyOf es)
+  answer-is : (f : Fused) (es : List Event) (a : Tally) → a .records ≡ length es → a .stores ≡ count es
+      → changedOf (answerOf f a) ≡ changedBy f (tallyOf es)
   answer-is f es a e d = ap (λ (t : Tally). changedOf (answerOf f t)) same ∙ by f (tallyOf es)
     where
       same : a ≡ tallyOf es
@@ -80,7 +81,8 @@ module _ (A L : List ℕ) {s : Site} (x : ℕ) (g : Gpi) (h : Sited (length A) s
   unfolding siteSet apply stores logged records
   made {p} {L′} {a} {r} m e c l b = go (arm .valid (at table (s .index))) refl
     where
-      go : (v : Bool) → arm .valid (at table (s .index)) ≡ v → Made (siteSet (lent c l A b) L s x (num g)) r (laid (s .start) (s .words) A p) L′
+      go : (v : Bool) → arm .valid (at table (s .index)) ≡ v
+          → Made (siteSet (lent c l A b) L s x (num g)) r (laid (s .start) (s .words) A p) L′
       go true v =
           let n = rw v at m in
           let d = n .done in

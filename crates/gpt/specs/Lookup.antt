@@ -32,7 +32,8 @@ lookedGpi (Refused r) = 0
 abbrev pub granted : Config → Gpi → Refusal → Looked
 granted c g r = cond (supportedOf c g) (Ok g) (Refused r)
 
--- 9: "entry at the address invalid; lookup: unsupported GPI". The word is valid throughout or not at all; support is asked of the one granule.
+-- 9: "entry at the address invalid; lookup: unsupported GPI". The word is valid throughout or not at all; support is asked of the one
+-- granule.
 abbrev pub judged : Config → Reading → Looked
 judged c (Known g) = granted c g InvalidL1Entry
 judged c Invalid = Refused InvalidL1Entry

@@ -26,7 +26,8 @@ use Rattle.stores.specs.declared.Tally.{Tally}
 use Rattle.gpt.specs.declared.Changed.{Changed}
 use Rattle.gpt.specs.declared.Changed.the-variants.{Done, Stopped, Refused}
 
--- the paper's number of each case, and its counts: "a refused set 0 stores and 0 records, except under 10, where both counts are those made"
+-- the paper's number of each case, and its counts: "a refused set 0 stores and 0 records, except under 10, where both counts are those
+-- made"
 abbrev pub changedNumber : Changed → ℕ
 changedNumber (Done t) = 0
 changedNumber (Stopped t) = 10
@@ -76,8 +77,8 @@ changedBy Unfused t = Done t
 changedBy (Level l) t = Done t
 changedBy (Met k) t = Stopped t
 
--- 9: "entry at the address invalid". Else "the shattered words and the new granule stored", then what is fused, made in the table; the log with
--- their records over its front. Under refusal 10 the events end before the fuse (`fused` of the crate `theory`).
+-- 9: "entry at the address invalid". Else "the shattered words and the new granule stored", then what is fused, made in the table; the log
+-- with their records over its front. Under refusal 10 the events end before the fuse (`fused` of the crate `theory`).
 unfoldable pub siteSet : Lent → List ℕ → Site → ℕ → ℕ → Outcome
 siteSet q L s x g =
     cond (formatOf (q .config) .valid (at (tableIn q s) (s .index)))

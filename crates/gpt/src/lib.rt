@@ -98,7 +98,9 @@ fn changed_by(a: Answer) -> Changed
 fn set_site(arena: &mut [u64], log: &mut [u64], s: Site, address: PA, g: Gpi) -> Changed
     requires { ⌜ Sited (length (now arena)) s ⌝ }
     requires { ⌜ 52 ≤ length (now log) ⌝ }
-    ensures { λ r. ⌜ ((c : Config) (l : List ℕ) (b : ℕ) → Made (siteSet (lent c l (now (arena .entry)) b) (now (log .entry)) s (address .0) (num g)) r (now (arena .exit)) (now (log .exit))) ⌝ }
+    ensures { λ r. ⌜ ((c : Config) (l : List ℕ) (b : ℕ)
+        → Made (siteSet (lent c l (now (arena .entry)) b) (now (log .entry)) s (address .0) (num g)) r (now (arena .exit))
+        (now (log .exit))) ⌝ }
 {
     let o = s.start;
     let end = o + s.words;
@@ -125,7 +127,8 @@ pub fn set(
     address: PA,
     gpi: u64,
 ) -> Changed
-    ensures { λ r. ⌜ Made (setOf (lent c (now (l0 .entry)) (now (arena .entry)) (base .0)) (now (log .entry)) (address .0) gpi) r (now (arena .exit)) (now (log .exit)) ⌝ }
+    ensures { λ r. ⌜ Made (setOf (lent c (now (l0 .entry)) (now (arena .entry)) (base .0)) (now (log .entry)) (address .0) gpi) r
+        (now (arena .exit)) (now (log .exit)) ⌝ }
 {
     let n = gpi::gpi_of(gpi);
     let q = Ask {

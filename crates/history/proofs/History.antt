@@ -1,5 +1,5 @@
--- Demand 3 over time: while sets, cut sets and mends follow one another, every address looks up as the ideal says. Each act's lookups are demand
--- 3's, or a mend's, and what it leaves is sound.
+-- Demand 3 over time: while sets, cut sets and mends follow one another, every address looks up as the ideal says. Each act's lookups are
+-- demand 3's, or a mend's, and what it leaves is sound.
 use mathlib.Core.Path.{_≡_, refl, sym, ap, _∙_, subst}
 use mathlib.Core.Bool.{Bool, true, false, cond, not, _&&_}
 use mathlib.Core.List.{List, [], _∷_}
@@ -44,7 +44,8 @@ use Rattle.cut_and_mend.specs.Demand3.{Ready, cutAfter, granuleStoreAfter}
 use Rattle.cut_and_mend.proofs.Looks.{table-of}
 use Rattle.cut_and_mend.proofs.Happened.{Happened, happened}
 use Rattle.cut_and_mend.proofs.Cut.{stored, length-stored, cut-is, all-made, granule-store, outside, old, new}
-use Rattle.history.specs.History.{Request, Act, sets, cuts, mends, change, actMarks, made, State, start, act, acts, Aimed, May, Allowed, Sound, Kept}
+use Rattle.history.specs.History.{Request, Act, sets, cuts, mends, change, actMarks, made}
+use Rattle.history.specs.History.{State, start, act, acts, Aimed, May, Allowed, Sound, Kept}
 use Rattle.history.proofs.Tables.{sound-ready, lay-sound}
 
 module _ (w : Widths) (S : State) (K : Kept w S) where
@@ -99,7 +100,8 @@ module _ (w : Widths) (S : State) (K : Kept w S) where
           let f = h .found in
           rw (h .made .left)
           (lay-sound (K .sound) f (apply (tableIn q s) (stores (siteEvents q s x (r .gpi)))) (length-apply _ _ ∙ table-length f) (S .marks)
-          (λ m. set-whole (formatOf (q .config)) (format-laws (q .config)) (s .unit) (f .sited .unit-least) (tableIn q s) (f .sited .regions .0)
+          (λ m. set-whole (formatOf (q .config)) (format-laws (q .config)) (s .unit) (f .sited .unit-least) (tableIn q s)
+          (f .sited .regions .0)
           (table-length f ∙ f .sited .regions .1) (targetAt s x (r .gpi)) (h .aimed) whole)
           (λ e d m. m))
 
@@ -136,12 +138,14 @@ module _ (w : Widths) (S : State) (K : Kept w S) where
     -- one that is refused changes nothing
     refused : (c : Refusal) → Sound w q (marks (refusalNumber c))
     refused c =
-        let z : (d : ℕ) → marks (refusalNumber c) d ≡ S .marks d = λ d. rw (ne-eqb (refusalNumber c) 0 (λ e. omega (arith, refusal-number c .0))) refl in
+        let z : (d : ℕ) → marks (refusalNumber c) d
+        ≡ S .marks d = λ d. rw (ne-eqb (refusalNumber c) 0 (λ e. omega (arith, refusal-number c .0))) refl in
         record { configured = K .sound .configured; apart = K .sound .apart; whole = λ e p a m. K .sound .whole e p a (sym (z e) ∙ m) }
 
     -- one that no limit stops makes the table whole
     module _ (s : Site) (f : Found q x w s) where
-      mended : (b : Bool) → ltb n (l1Words w) ≡ b → not b ≡ true → Whole (formatOf (q .config)) (s .unit) (mend (formatOf (q .config)) (s .unit) n (tableIn q s))
+      mended : (b : Bool) → ltb n (l1Words w) ≡ b → not b ≡ true
+          → Whole (formatOf (q .config)) (s .unit) (mend (formatOf (q .config)) (s .unit) n (tableIn q s))
       unfolding mendsOf
       mended true e m = let z : _≡_ {A = ℕ} 0 1 = cc in absurd (omega arith)
       mended false e m =
@@ -159,7 +163,8 @@ module _ (w : Widths) (S : State) (K : Kept w S) where
     unfolding act mendOf mendedAt
     mend-kept = record { sound = go (namedBy (placed q x)) refl; looks = λ y. mend-looks q x n y ∙ K .looks y }
       where
-        go : (p : Named) → namedBy (placed q x) ≡ p → Sound w (mendedAt q n (namedBy (placed q x)) .left) (marks (mendedNumber (mendedAt q n (namedBy (placed q x)) .answer)))
+        go : (p : Named) → namedBy (placed q x) ≡ p
+            → Sound w (mendedAt q n (namedBy (placed q x)) .left) (marks (mendedNumber (mendedAt q n (namedBy (placed q x)) .answer)))
         go (Refused c) e = rw e (refused c)
         go (At s) e =
             let p = found q Plain x s (named-in (placed q x) s e) in
@@ -180,9 +185,9 @@ acts-kept w l S K a zero = K
 acts-kept w [] S K a (suc k) = K
 acts-kept w (b ∷ l) S K a (suc k) = acts-kept w l (act w b S) (act-kept w b S K (a .0)) (a .1) k
 
--- From an arena whose tables share no word, after any number of any sets that answer 0 or 10 in tables known to be whole, of such sets cut after
--- any number of stores, and of mends of any limit: every address looks up as it did at the start, but for the granules whose granule store was
--- made since, and those look up as the last such store says. And the tables known to be whole are.
+-- From an arena whose tables share no word, after any number of any sets that answer 0 or 10 in tables known to be whole, of such sets cut
+-- after any number of stores, and of mends of any limit: every address looks up as it did at the start, but for the granules whose granule
+-- store was made since, and those look up as the last such store says. And the tables known to be whole are.
 pub history : (w : Widths) (q : Lent) (marks : ℕ → Bool) → Sound w q marks → (l : List Act) → Allowed w l (start q marks)
     → (k : ℕ) → Kept w (acts w (take k l) (start q marks))
 history w q marks R l a k = acts-kept w l (start q marks) (record { sound = R; looks = λ y. refl }) a k

@@ -1,4 +1,5 @@
--- The history theorem's premises can be met: document 01's arrangement B, with a set, a set cut after any number of stores, and a mend of any limit.
+-- The history theorem's premises can be met: document 01's arrangement B, with a set, a set cut after any number of stores, and a mend of
+-- any limit.
 use mathlib.Core.Path.{_≡_, refl, sym, ap, _∙_}
 use mathlib.Core.Bool.{Bool, true, cond}
 use mathlib.Core.List.{List, [], _∷_}
@@ -68,14 +69,18 @@ story k n =
 
 pub allowed : (k n : ℕ) → Allowed widths (story k n) (start arrangementB (λ _. true))
 unfolding act
-allowed k n =
-    (record { is-marked = refl; answers = answers-0 (starred .c7 .number) }, (record { is-marked = refl; answers = answers-0 (starred .c8 .number) }, (tt, tt)))
+allowed k n = (
+  record { is-marked = refl; answers = answers-0 (starred .c7 .number) },
+  (record { is-marked = refl; answers = answers-0 (starred .c8 .number) }, (tt, tt)),
+)
 
 -- So the theorem speaks of them, at every moment.
 pub told : (k n j : ℕ) → Kept widths (acts widths (take j (story k n)) (start arrangementB (λ _. true)))
 told k n j = history widths arrangementB (λ _. true) (ready (λ _. true)) (story k n) (allowed k n) j
 
--- C8's granule store is its first: cut before it, the address looks up as C7 left it, cut after it, as C8 asks; and so it stays, whatever the mend.
-pub target-told : (k n : ℕ) → lookupOf (acts widths (story k n) (start arrangementB (λ _. true)) .lent) 0x4000_0000 ≡ cond (ltb 0 k) (Ok Root) (Ok Realm)
+-- C8's granule store is its first: cut before it, the address looks up as C7 left it, cut after it, as C8 asks; and so it stays, whatever
+-- the mend.
+pub target-told : (k n : ℕ)
+    → lookupOf (acts widths (story k n) (start arrangementB (λ _. true)) .lent) 0x4000_0000 ≡ cond (ltb 0 k) (Ok Root) (Ok Realm)
 unfolding acts act storesBefore opened
 target-told k n = told k n 3 .looks 0x4000_0000

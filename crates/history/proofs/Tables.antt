@@ -71,7 +71,8 @@ module _ {q : Lent} {marks : ℕ → Bool} {x : ℕ} {w : Widths} {s : Site} (K 
 
       Agrees-of : Widths → Type 0
       Agrees-of v =
-          (o : ℕ) → TableAt v q (l0Index v x) o → Agrees (formatOf (q .config)) (sizeWords v MB2) (tableAt o (l1Words v) (q .arena)) (l1Index v x)
+          (o : ℕ) → TableAt v q (l0Index v x) o
+          → Agrees (formatOf (q .config)) (sizeWords v MB2) (tableAt o (l1Words v) (q .arena)) (l1Index v x)
 
   -- ---- T in its place
 
@@ -95,7 +96,8 @@ module _ {q : Lent} {marks : ℕ → Bool} {x : ℕ} {w : Widths} {s : Site} (K 
         table-other (s .start) (s .words) (q .arena) (f .sited .fits) T len o (l1Words w) (a .inside)
         (rw (f .words)
         (apart-of (l1Words w) (s .start) o (pow-pos _)
-        (λ k i j h l. d (K .apart .apart e (l0Index w x) o (s .start) k a (table-of f) (record { from = h; to = l }) (record { from = i; to = j })))))
+        (λ k i j h l. d (K .apart .apart e (l0Index w x) o (s .start) k a (table-of f) (record { from = h; to = l })
+        (record { from = i; to = j })))))
 
     -- Marks that keep to the tables known to be whole, and to T where it is whole, are sound.
     pub lay-sound : (n : ℕ → Bool) → (n (l0Index w x) ≡ true → Whole (formatOf (q .config)) (s .unit) T)

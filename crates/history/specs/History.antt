@@ -1,6 +1,6 @@
--- Demand 3 over time: what every address looks up while sets, sets cut after any number of stores, and mends of any limit follow one another in
--- one arena. Over the set, lookup and mend that the contracts cite; beside what is lent stand the marks, which L0 entries' tables are known to be
--- whole, and the ideal, what each address ought to look up as.
+-- Demand 3 over time: what every address looks up while sets, sets cut after any number of stores, and mends of any limit follow one
+-- another in one arena. Over the set, lookup and mend that the contracts cite; beside what is lent stand the marks, which L0 entries'
+-- tables are known to be whole, and the ideal, what each address ought to look up as.
 use mathlib.Core.Path.{_≡_}
 use mathlib.Core.Bool.{Bool, true, false, cond, not, _&&_}
 use mathlib.Core.List.{List, [], _∷_}
@@ -50,8 +50,8 @@ acted (sets r) q = change q r .left
 acted (cuts r k) q = cutAfter k q (change q r)
 acted (mends x n) q = mendOf q x n .left
 
--- which L0 entries' tables are then known to be whole: a finished set leaves that as it was; a cut makes the table doubtful, and so does a mend
--- that its limit may have stopped; a mend that no limit can stop makes it whole. A refused mend changes nothing
+-- which L0 entries' tables are then known to be whole: a finished set leaves that as it was; a cut makes the table doubtful, and so does a
+-- mend that its limit may have stopped; a mend that no limit can stop makes it whole. A refused mend changes nothing
 abbrev pub actMarks : Widths → Act → Lent → (ℕ → Bool) → ℕ → Bool
 actMarks w (sets r) q s e = s e
 actMarks w (cuts r k) q s e = cond (eqb e (l0Index w (r .address))) false (s e)
@@ -109,12 +109,13 @@ Allowed w (a ∷ l) S = May w S a × Allowed w l (act w a S)
 
 -- ---- what is asked of the start
 
--- w are the widths that the configuration means; the tables of the L0 entries that lie wholly inside the arena share no word, and the marked ones
--- are whole
+-- w are the widths that the configuration means; the tables of the L0 entries that lie wholly inside the arena share no word, and the
+-- marked ones are whole
 pub record Sound (w : Widths) (q : Lent) (marks : ℕ → Bool) : Type 0 where
   pub configured : configuredOf (q .config) ≡ Configured w
   pub apart : Apart w q
-  pub whole : (e o : ℕ) → TableAt w q e o → marks e ≡ true → Whole (formatOf (q .config)) (sizeWords w MB2) (tableAt o (l1Words w) (q .arena))
+  pub whole : (e o : ℕ) → TableAt w q e o → marks e ≡ true
+      → Whole (formatOf (q .config)) (sizeWords w MB2) (tableAt o (l1Words w) (q .arena))
 
 -- ---- what holds at every moment
 

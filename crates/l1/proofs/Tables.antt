@@ -36,7 +36,8 @@ stopped-root = stopped-not-whole arm arm-laws 2 (lit< tt) 10 refl
 -- ---- worked: what must open to be computed
 
 unfoldable opened : ℕ
-unfolding reads reading span every alike largestAlike normalUpTo build normal apply cut repairs mending mend mendCount mends differing nibs l1Of
+unfolding reads reading span every alike largestAlike normalUpTo build normal apply cut repairs mending mend mendCount mends differing nibs
+    l1Of
 opened = 0
 
 abbrev root : ℕ

@@ -1,4 +1,5 @@
--- Mends and checks of one table as calls, by any addresses that name it: where mends one after the other lead, and what the check says then.
+-- Mends and checks of one table as calls, by any addresses that name it: where mends one after the other lead, and what the check says
+-- then.
 use mathlib.Core.Path.{_≡_, refl, sym, ap, _∙_, subst}
 use mathlib.Core.Bool.{Bool, true, false}
 use mathlib.Core.List.{List, [], _∷_, _++_, map}
@@ -78,7 +79,8 @@ module _ {q : Lent} {x : ℕ} {w : Widths} {s : Site} (f : Found q x w s) where
   -- ---- THE THEOREMS, of a table T in its place
 
   module _ (T : List ℕ) (len : length T ≡ s .words) where
-    -- Mends of any limits answer 0, and one more, of a limit of at least the table's words, leaves its normal table, and nothing else changed.
+    -- Mends of any limits answer 0, and one more, of a limit of at least the table's words, leaves its normal table, and nothing else
+    -- changed.
     pub mends-finish : (ms : List Mend) (m : Mend) → AllName w x (ms ++ m ∷ []) → s .words ≤ m .limit
         → Mending (layIn q s T) (ms ++ m ∷ []) (layIn q s (normal F (s .unit) T))
     mends-finish ms m n k =
@@ -87,7 +89,8 @@ module _ {q : Lent} {x : ℕ} {w : Widths} {s : Site} (f : Found q x w s) where
         (mends-leave ms m n T len)
 
   -- To a normal table the check says yes.
-  pub normal-checked : (t : List ℕ) → length (normal F (s .unit) t) ≡ s .words → (y : ℕ) → Names w x y → checkOf (layIn q s (normal F (s .unit) t)) y ≡ Yes
+  pub normal-checked : (t : List ℕ) → length (normal F (s .unit) t) ≡ s .words → (y : ℕ) → Names w x y
+      → checkOf (layIn q s (normal F (s .unit) t)) y ≡ Yes
   normal-checked t len y n =
       check-judges (normal F (s .unit) t) len y n
       ∙ ap verdict (normal-yes F L (s .unit) (normal F (s .unit) t) (sym (normal-normal F L (s .unit) (f .sited .unit-least) t)))

@@ -1,5 +1,5 @@
--- Worked examples of mend and the check, by computation alone: small tables at 64 KB, where two words are 2 MB; and the refusals of calls in
--- document 01's arrangement B.
+-- Worked examples of mend and the check, by computation alone: small tables at 64 KB, where two words are 2 MB; and the refusals of calls
+-- in document 01's arrangement B.
 use mathlib.Core.Path.{_≡_, refl}
 use mathlib.Core.Bool.{Bool, true, false}
 use mathlib.Core.List.{List, [], _∷_}
@@ -24,7 +24,8 @@ use Rattle.mend.specs.Outcome.{mendedNumber, mendedStores, checkedNumber
 
 -- what must open for a mend and a check to be computed
 unfoldable pub opened : ℕ
-unfolding nibs l0Of l1Of configuredOf arenaBad outside siteOf located placeOf reads span every alike largestAlike normalUpTo apply repairs mending mend mendCount isNormal mendedAt mendOf checkedAt checkOf
+unfolding nibs l0Of l1Of configuredOf arenaBad outside siteOf located placeOf reads span every alike largestAlike normalUpTo apply repairs
+    mending mend mendCount isNormal mendedAt mendOf checkedAt checkOf
 opened = 0
 
 -- ---- tables

@@ -27,7 +27,13 @@ use Rattle.mend.specs.Outcome.{Left, namedBy, mendedAt, mendOf, verdict,
 
 pub site-regions : (A : List ℕ) (s : Site) → Sited (length A) s → Regions (s .unit) (tableAt (s .start) (s .words) A)
 site-regions A s h =
-    record { some = h .unit-least; few = h .unit-most; regions = h .regions .0; whole = length-table (s .start) (s .words) A (h .fits) ∙ h .regions .1 }
+    record {
+      some = h .unit-least;
+      few = h .unit-most;
+      regions = h .regions .0;
+      whole = length-table (s .start) (s .words) A (h .fits)
+          ∙ h .regions .1;
+    }
 
 -- a table is named where the address lies in one
 pub named-in : (p : Place) (s : Site) → namedBy p ≡ At s → p ≡ Table s
@@ -52,7 +58,8 @@ module _ (q : Lent) (x : ℕ) where
   unfolding checkOf checkedAt
   check-refused r e = rw e refl
 
-  pub check-in : (s : Site) → namedBy (placed q x) ≡ At s → {y : Bool} → y ≡ isNormal arm (s .unit) (tableIn q s) → {v : Checked} → v ≡ verdict y
+  pub check-in : (s : Site) → namedBy (placed q x) ≡ At s → {y : Bool} → y ≡ isNormal arm (s .unit) (tableIn q s) → {v : Checked}
+      → v ≡ verdict y
       → v ≡ checkOf q x
   unfolding checkOf checkedAt
   check-in s e h k = rw e (k ∙ ap verdict h)

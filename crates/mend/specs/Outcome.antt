@@ -1,5 +1,5 @@
--- What mend and the check answer, and what a mend leaves, for every input: document 01, "Numbers handed back" and "Agreement, normal tables,
--- mend". Both refuse alike: 1 to 4, 6, 7, 8 in the order that every call shares.
+-- What mend and the check answer, and what a mend leaves, for every input: document 01, "Numbers handed back" and "Agreement, normal
+-- tables, mend". Both refuse alike: 1 to 4, 6, 7, 8 in the order that every call shares.
 use mathlib.Core.Path.{_≡_}
 use mathlib.Core.Bool.{Bool, true, false}
 use mathlib.Core.List.{List}

@@ -62,7 +62,8 @@ module _ (F : Format) {u l p : ℕ} {r : ℕ → ℕ} (Q : (ℕ → ℕ) → ℕ
       → Q (normalUpTo F u r (suc l)) (p * span u l) (1 * span u l)
   by-words {want} q e w =
       let j′ : Judges F u l p r (Words want) = rw q at j in
-      rw (one-mul (span u l)) (ext (normalUpTo F u r (suc l)) (λ i. wantedAt F want (r i)) (p * span u l) (span u l) (j′ .words) (rw e at w))
+      rw (one-mul (span u l)) (ext (normalUpTo F u r (suc l)) (λ i. wantedAt F want (r i)) (p * span u l) (span u l) (j′ .words)
+      (rw e at w))
 
   pub by-parts : {s : Size} → x ≡ Parts s → Q (normalUpTo F u r (suc (levelOf s))) (p * 16 * span u (levelOf s)) (16 * span u (levelOf s))
       → Q (normalUpTo F u r (suc l)) (p * span u l) (1 * span u l)

@@ -4,7 +4,8 @@ use Rattle.theory.specs.Format.{reads}
 use Rattle.theory.specs.Normal.{span}
 use Rattle.theory.specs.Stores.{apply, fill}
 use Rattle.theory.specs.Events.{stores, count, records, logged}
-use Rattle.theory.specs.Set.{fillEvent, shatter, breaks, broken, brokenBarriers, newWord, changed, scan, climb, fusing, fused, storeEvents, setEvents}
+use Rattle.theory.specs.Set.{fillEvent, shatter, breaks, broken, brokenBarriers, newWord}
+use Rattle.theory.specs.Set.{changed, scan, climb, fusing, fused, storeEvents, setEvents}
 use Rattle.granules.specs.Nibs.{nibs, word}
 use Rattle.l0.specs.L0.{l0Of}
 use Rattle.l1.specs.L1.{l1Of}
@@ -18,7 +19,9 @@ use Prim.Native.Nat.{ℕ}
 
 -- what must open for the definitions to be computed
 unfoldable pub opened : ℕ
-unfolding reads span apply fill stores count records logged fillEvent shatter breaks broken brokenBarriers newWord changed scan climb fusing fused storeEvents setEvents nibs word l0Of l1Of configuredOf arenaBad outside siteOf located placeOf lookedAt lookupOf siteSet setAt setOf
+unfolding reads span apply fill stores count records logged fillEvent shatter breaks broken brokenBarriers newWord changed scan climb
+    fusing fused storeEvents setEvents nibs word l0Of l1Of configuredOf arenaBad outside siteOf located placeOf lookedAt lookupOf siteSet
+    setAt setOf
 opened = 0
 
 pub starred : Starred

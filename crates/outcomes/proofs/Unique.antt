@@ -1,6 +1,7 @@
--- Each public contract has one outcome: whatever two runs of a call meet it on the same input, refused ones too, they agree in all that is handed
--- back and in every word that the call may write. The clause of each contract stands as its function has it, under the function's name; the inputs
--- are the sections' parameters. Those with more to leave than an answer are also met by the definition's own outcome, so that none is empty.
+-- Each public contract has one outcome: whatever two runs of a call meet it on the same input, refused ones too, they agree in all that is
+-- handed back and in every word that the call may write. The clause of each contract stands as its function has it, under the function's
+-- name; the inputs are the sections' parameters. Those with more to leave than an answer are also met by the definition's own outcome, so
+-- that none is empty.
 use mathlib.Core.Path.{_≡_, refl, sym, _∙_, ap, ap₂}
 use mathlib.Core.Bool.{Bool}
 use mathlib.Core.List.{List}
@@ -123,7 +124,8 @@ pub dump_image-fault_number : (f : Fault) → One (λ (n : ℕ). n ≡ faultNumb
 dump_image-fault_number f = is _
 
 chunk-of : {r q : Chunk} → r .written ≡ q .written → r .next ≡ q .next → r .done ≡ q .done → r ≡ q
-chunk-of {r = r} {q = q} e f g = ap₂ (λ w n. record { written = w; next = n; done = r .done }) e f ∙ ap (λ d. record { written = q .written; next = q .next; done = d }) g
+chunk-of {r = r} {q = q} e f g = ap₂ (λ w n. record { written = w; next = n; done = r .done }) e f
+    ∙ ap (λ d. record { written = q .written; next = q .next; done = d }) g
 
 -- a chunk of what is left: where it ends is told by the buffer's room, and whether it is the last by where it ends
 module _ (S : ℕ → List Step) (k : ℕ) (o : List ℕ) where

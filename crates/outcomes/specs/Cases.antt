@@ -69,18 +69,21 @@ pub record Starred : Type 0 where
   -- "then Root again": from what C7 left
   pub c8 : Leaves 0 513 5 arenaB log8 (change (change arrangementB 0x4000_0000 11 .left) 0x4000_0000 10)
   -- "set Root at 0x40000000 gives 10 with 1 store; Realm gives 0"
-  pub c9 : Leaves 10 1 4 (arena9 0xAAAA_AAAA_AAAA_AAAA) (log9 0xAAAA_AAAA_AAAA_AAAA) (change (inB (arena9 0xAAAA_AAAA_AAAA_AAAA)) 0x4000_0000 10)
-  pub c9-realm : Leaves 0 1 4 (arena9 0xAAAA_AAAA_AAAA_AAAB) (log9 0xAAAA_AAAA_AAAA_AAAB) (change (inB (arena9 0xAAAA_AAAA_AAAA_AAAA)) 0x4000_0000 11)
+  pub c9 : Leaves 10 1 4 (arena9 0xAAAA_AAAA_AAAA_AAAA) (log9 0xAAAA_AAAA_AAAA_AAAA)
+      (change (inB (arena9 0xAAAA_AAAA_AAAA_AAAA)) 0x4000_0000 10)
+  pub c9-realm : Leaves 0 1 4 (arena9 0xAAAA_AAAA_AAAA_AAAB) (log9 0xAAAA_AAAA_AAAA_AAAB)
+      (change (inB (arena9 0xAAAA_AAAA_AAAA_AAAA)) 0x4000_0000 11)
   -- "set on the block at 0, NonSecure: 6", "set GPI 13: 6"
   pub c10 : Leaves 6 0 0 arenaB log (change arrangementB 0x0 9)
   pub c11 : Leaves 6 0 0 arenaB log (change arrangementB 0x4000_0000 13)
 
 -- ---- one more: a set that shatters and then answers 10
 
--- "Refusal 10 leaves the shattered words and the new granule stored, nothing fused, and the log up to that point": a 2 MB entry of Root at the
--- address, an invalid word in its 32 MB, and Root is set
+-- "Refusal 10 leaves the shattered words and the new granule stored, nothing fused, and the log up to that point": a 2 MB entry of Root at
+-- the address, an invalid word in its 32 MB, and Root is set
 abbrev pub ShatteredThenStopped : Type 0
 ShatteredThenStopped =
     Leaves 10 3 8 (0xAAAA_AAAA_AAAA_AAAA ∷ 0xAAAA_AAAA_AAAA_AAAA ∷ 0x2 ∷ replicate 1021 0x3A1)
-    (1 ∷ 0 ∷ 2 ∷ 0xAAAA_AAAA_AAAA_AAAA ∷ (barriers 0x20_0000 ++ (5 ∷ 0 ∷ 0 ∷ 0xAAAA_AAAA_AAAA_AAAA ∷ (barriers 0x1_0000 ++ replicate 20 7))))
+    (1 ∷ 0 ∷ 2 ∷ 0xAAAA_AAAA_AAAA_AAAA ∷ (barriers 0x20_0000
+    ++ (5 ∷ 0 ∷ 0 ∷ 0xAAAA_AAAA_AAAA_AAAA ∷ (barriers 0x1_0000 ++ replicate 20 7))))
     (change (inB (0x1A1 ∷ 0x1A1 ∷ 0x2 ∷ replicate 1021 0x3A1)) 0x4000_0000 10)

@@ -1,6 +1,6 @@
-// Replays the Rust's answers: standard input is the list that compare/ wrote (README.md), each request goes to the port by its C interface, and
-// answer, GPI, barriers and every arena word are held to what the Rust did. So the gate compares with the Rust, and needs none.
-// Nothing is taken on trust of the list: a number that doesn't fit what is here counts as a difference.
+// Replays the Rust's answers: standard input is the list that compare/ wrote (README.md), each request goes to the port by its C interface,
+// and answer, GPI, barriers and every arena word are held to what the Rust did. So the gate compares with the Rust, and needs none. Nothing
+// is taken on trust of the list: a number that doesn't fit what is here counts as a difference.
 mod parts;
 
 // What the records said so far.

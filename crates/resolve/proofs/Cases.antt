@@ -139,6 +139,7 @@ unfolding configuredOf arenaBad located placeOf l0Of
 surplus = (refl, refl)
 
 -- a table that starts 512 words into the arena: the ranges align to the table, the start is the arena's
-site : placeOf (asks fieldsB 1536 0x7FFF_F000 Plain 0x4123_4567) l0B ≡ Table (record { start = 512; words = 1024; index = 18; granule = 3; unit = 2; bytes = 0x1_0000 })
+site : placeOf (asks fieldsB 1536 0x7FFF_F000 Plain 0x4123_4567) l0B
+    ≡ Table (record { start = 512; words = 1024; index = 18; granule = 3; unit = 2; bytes = 0x1_0000 })
 unfolding configuredOf arenaBad outside siteOf located placeOf l0Of
 site = refl

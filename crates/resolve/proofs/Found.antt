@@ -1,5 +1,5 @@
--- An address that lies in an L1 table: what its site is, where the other addresses of its L0 entry lie, and that all this stays whatever table is
--- laid there. Lookups, mends and demand 3 cite it.
+-- An address that lies in an L1 table: what its site is, where the other addresses of its L0 entry lie, and that all this stays whatever
+-- table is laid there. Lookups, mends and demand 3 cite it.
 use mathlib.Core.Path.{_≡_, refl, sym, ap, ap₂, _∙_}
 use mathlib.Core.List.{List}
 use Prim.Native.Nat.{ℕ, _+_, _-_, _*_, _/_, _≤_, _<_, _^_}
@@ -45,19 +45,22 @@ pub record Found (q : Lent) (x : ℕ) (w : Widths) (s : Site) : Type 0 where
 
 pub found : (q : Lent) (call : Call) (x : ℕ) (s : Site) → placeFor q call x ≡ Table s → (w : Widths) × Found q x w s
 unfolding siteOf
-found q call x s e = (k .0, record {
-  configured = r .configured;
-  listed = r .passed .listed;
-  below = r .passed .below;
-  entry = r .entry;
-  sited = r .sited;
-  words = words;
-  index = ap (λ (t : Site). t .index) (r .site);
-  granule = ap (λ (t : Site). t .granule) (r .site);
-  unit = unit;
-  bytes = bytes;
-  place = λ y n. neighbour (askOf q call x) (q .l0) (k .0) s y r (n .below) (n .entry) ∙ ap Table (same y);
-})
+found q call x s e = (
+  k .0,
+  record {
+    configured = r .configured;
+    listed = r .passed .listed;
+    below = r .passed .below;
+    entry = r .entry;
+    sited = r .sited;
+    words = words;
+    index = ap (λ (t : Site). t .index) (r .site);
+    granule = ap (λ (t : Site). t .granule) (r .site);
+    unit = unit;
+    bytes = bytes;
+    place = λ y n. neighbour (askOf q call x) (q .l0) (k .0) s y r (n .below) (n .entry) ∙ ap Table (same y);
+  },
+)
   where
     k : (w : Widths) × Resolved (askOf q call x) (q .l0) w s
     k = resolved (askOf q call x) (q .l0) s e
@@ -83,7 +86,8 @@ found q call x s e = (k .0, record {
 -- ---- another arena of the same length
 
 -- of the arena only the length counts for a place
-pub over-place : (q : Lent) (A : List ℕ) → length A ≡ length (q .arena) → (call : Call) (y : ℕ) → placeFor (over q A) call y ≡ placeFor q call y
+pub over-place : (q : Lent) (A : List ℕ) → length A ≡ length (q .arena) → (call : Call) (y : ℕ)
+    → placeFor (over q A) call y ≡ placeFor q call y
 over-place q A e call y =
     ap (λ (n : ℕ). placeOf (asks (q .config) n (q .base) call y) (q .l0)) e
 

@@ -1,4 +1,5 @@
--- Document 01, "What a call is lent", as one thing: every call, demand 3 and the history theorem take it. The log of a set stands beside it.
+-- Document 01, "What a call is lent", as one thing: every call, demand 3 and the history theorem take it. The log of a set stands beside
+-- it.
 use mathlib.Core.List.{List}
 use mathlib.Core.Path.{_≡_}
 use Prim.Native.Nat.{ℕ, _<_, _^_}

@@ -156,8 +156,8 @@ enum Admitted {
     Refused(Refusal),
 }
 
-// The refusals 1 to 6 in their order. The tests are asked first and judged then: one that is called behind several others counts as rare, and
-// the compiler would leave its call standing in a lookup.
+// The refusals 1 to 6 in their order. The tests are asked first and judged then: one that is called behind several others counts as rare,
+// and the compiler would leave its call standing in a lookup.
 fn admit(d: Configured, l0: &[u64], q: Ask) -> Admitted
     requires { ⌜ d ≡ configuredOf (q .config) ⌝ }
     ensures { λ r. ⌜ Told q (now (l0 .entry)) r ⌝ }

@@ -1,5 +1,5 @@
--- The levels of an index: the word of the first levels, by whether the largestAlike of them is alike; and which level a normal word has. Of the
--- crate `theory`.
+-- The levels of an index: the word of the first levels, by whether the largestAlike of them is alike; and which level a normal word has. Of
+-- the crate `theory`.
 use mathlib.Core.Path.{_≡_, refl, sym, ap, _∙_}
 use mathlib.Core.Bool.{Bool, true, false, cond}
 use Prim.Native.Nat.{ℕ, zero, suc, _+_, _-_, _≤_, _<_}
@@ -33,7 +33,8 @@ module _ (F : Format) (L : Laws F) (u : ℕ) (u-pos : 0 < u) (r : ℕ → ℕ) w
       rw (v, q, alike-move (span u l) i k (gpi F (r i)) h, e) refl
 
   -- else it is the word of the levels below
-  pub up-false : (l i k : ℕ) → alike F r (span u l) i (gpi F (r i)) ≡ false → In (span u l) i k → normalUpTo F u r (suc l) k ≡ normalUpTo F u r l k
+  pub up-false : (l i k : ℕ) → alike F r (span u l) i (gpi F (r i)) ≡ false → In (span u l) i k
+      → normalUpTo F u r (suc l) k ≡ normalUpTo F u r l k
   unfolding normalUpTo largestAlike
   up-false l i k e h = go (alike F r (span u l) k (gpi F (r k))) refl
     where
@@ -60,7 +61,8 @@ module _ (F : Format) (L : Laws F) (u : ℕ) (u-pos : 0 < u) (r : ℕ → ℕ) w
   -- the range of level l around i is alike, and all of it has that word among the first n levels
   abbrev pub Ranged : ℕ → ℕ → ℕ → Type 0
   Ranged n i l =
-      (l < n) × (alike F r (span u l) i (gpi F (r i)) ≡ true) × ((k : ℕ) → In (span u l) i k → normalUpTo F u r n k ≡ F .contig l (gpi F (r i)))
+      (l < n) × (alike F r (span u l) i (gpi F (r i)) ≡ true)
+      × ((k : ℕ) → In (span u l) i k → normalUpTo F u r n k ≡ F .contig l (gpi F (r i)))
 
   -- so it is where the word of the first levels at i is contiguous
   pub normalUpTo-range : (n : ℕ) → n ≤ 3 → (i l : ℕ) → F .valid (r i) ≡ true → F .size (normalUpTo F u r n i) ≡ suc l

@@ -33,10 +33,12 @@ mendWalk-add k h a m zero s = rw add-zero refl
 mendWalk-add k h a m (suc n) s = rw (add-suc m n, mendWalk-add k h a m n s, add-assoc a m n) refl
 
 -- only the words of the stretch count
-mendWalk-ext : (k : ℕ) (g h : ℕ → ℕ) (a m : ℕ) → ((i : ℕ) → a ≤ i → i < a + m → g i ≡ h i) → (s : Walk) → mendWalk k g a m s ≡ mendWalk k h a m s
+mendWalk-ext : (k : ℕ) (g h : ℕ → ℕ) (a m : ℕ) → ((i : ℕ) → a ≤ i → i < a + m → g i ≡ h i) → (s : Walk)
+    → mendWalk k g a m s ≡ mendWalk k h a m s
 unfolding mendWalk
 mendWalk-ext k g h a zero e s = refl
-mendWalk-ext k g h a (suc m) e s = rw (mendWalk-ext k g h a m (λ i lo hi. e i lo (omega arith)) s, e (a + m) (omega arith) (omega arith)) refl
+mendWalk-ext k g h a (suc m) e s = rw (mendWalk-ext k g h a m (λ i lo hi. e i lo (omega arith)) s, e (a + m) (omega arith) (omega arith))
+    refl
 
 -- no store is left
 pub mendWalk-full : (k : ℕ) (h : ℕ → ℕ) (a m : ℕ) (s : Walk) → k ≤ s .made → mendWalk k h a m s ≡ s
@@ -132,7 +134,8 @@ module _ (F : Format) (L : Laws F) (u : ℕ) (u-pos : 0 < u) where
         → normalUpTo F u r (suc l) i ≡ F .contig l (gpi F (r a))
     words-single s i lo hi = up-true F L u u-pos r l a i (sym single-alike ∙ s) (in-here i lo hi)
 
-    pub words-mixed : single F r a (span u l) ≡ false → (i : ℕ) → a ≤ i → i < a + span u l → normalUpTo F u r (suc l) i ≡ normalUpTo F u r l i
+    pub words-mixed : single F r a (span u l) ≡ false → (i : ℕ) → a ≤ i → i < a + span u l
+        → normalUpTo F u r (suc l) i ≡ normalUpTo F u r l i
     words-mixed s i lo hi = up-false F L u u-pos r l a i (sym single-alike ∙ s) (in-here i lo hi)
 
   -- the walk over it; and one over words of no level
@@ -152,7 +155,8 @@ module _ (F : Format) (L : Laws F) (u : ℕ) (u-pos : 0 < u) where
   pub by-flats : (k a m : ℕ) (t : List ℕ) (c : ℕ) (t₂ : List ℕ) (c₂ : ℕ) → Goes k (λ i. F .flat (at t i)) a m t c t₂ c₂
       → Goes k (normalUpTo F u (at t) 0) a m t c t₂ c₂
   by-flats k a m t c t₂ c₂ g =
-      g ∙ mendWalk-ext k (λ i. F .flat (at t i)) (normalUpTo F u (at t) 0) a m (λ i lo hi. sym (normalUpTo-flat F L u u-pos (at t) i)) (walked t c)
+      g ∙ mendWalk-ext k (λ i. F .flat (at t i)) (normalUpTo F u (at t) 0) a m (λ i lo hi. sym (normalUpTo-flat F L u u-pos (at t) i))
+      (walked t c)
 
 -- ---- all of it is a mend
 

@@ -77,7 +77,8 @@ module _ (F : Format) (L : Laws F) where
     same-capped n i = go (F .valid (r i)) refl (same-valid (r i) (s i) (e i))
       where
         go : (b : Bool) → F .valid (r i) ≡ b → F .valid (r i) ≡ F .valid (s i)
-            → cond (F .valid (r i)) (largestAlike F u r i (gpi F (r i)) n) (r i) ≡ cond (F .valid (s i)) (largestAlike F u s i (gpi F (s i)) n) (s i)
+            → cond (F .valid (r i)) (largestAlike F u r i (gpi F (r i)) n) (r i)
+            ≡ cond (F .valid (s i)) (largestAlike F u s i (gpi F (s i)) n) (s i)
         go true p q = rw (← q, p) (ap (λ w. largestAlike F u r i (F .low w) n) (e i) ∙ same-widest i (gpi F (s i)) n)
         go false p q = rw (← q, p) (cc (L .flat-invalid (r i) p, L .flat-invalid (s i) (sym q ∙ p), e i))
 

@@ -13,7 +13,8 @@ returns c =
     let a = c .before .before .before .before .before .args in
     c .pack-checked .ensures
     ∙ ap checkedPacked (c .before .check .ensures)
-    ∙ ap (λ (k : Config). checkedPacked (checkOf (lent k (a .l0 .now) (a .arena .now) (a .base)) (a .address))) (c .before .before .from-flags .ensures)
+    ∙ ap (λ (k : Config). checkedPacked (checkOf (lent k (a .l0 .now) (a .arena .now) (a .base)) (a .address)))
+    (c .before .before .from-flags .ensures)
 
 pub gpt-check-spec : {M : Type 1} → statement M
 gpt-check-spec = tie.close (tie.spec (λ c κs. search needs) (λ c κs. search needs) (λ c κs. search needs) returns)

@@ -13,7 +13,8 @@ returns c =
     let a = c .before .before .before .before .before .args in
     c .pack-looked .ensures
     ∙ ap lookedPacked (c .before .lookup .ensures)
-    ∙ ap (λ (k : Config). lookedPacked (lookupOf (lent k (a .l0 .now) (a .arena .now) (a .base)) (a .address))) (c .before .before .from-flags .ensures)
+    ∙ ap (λ (k : Config). lookedPacked (lookupOf (lent k (a .l0 .now) (a .arena .now) (a .base)) (a .address)))
+    (c .before .before .from-flags .ensures)
 
 pub gpt-lookup-spec : {M : Type 1} → statement M
 gpt-lookup-spec = tie.close (tie.spec (λ c κs. search needs) (λ c κs. search needs) (λ c κs. search needs) returns)

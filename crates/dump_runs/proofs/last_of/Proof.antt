@@ -9,7 +9,9 @@ use Rattle.dump_runs.proofs.last_of.Statement.{statement}
 use Rattle.dump_runs.proofs.last_of.Tie as tie
 
 -- the power lies between 1 and 2^52, and what is computed from it stays below 2^53
-small : (c : tie.After-pow2) → (0 < c .pow2 .result) × (c .pow2 .result ≤ 2 ^ 52) × (c .before .args .a / c .pow2 .result * c .pow2 .result + (c .pow2 .result - 1) < 2 ^ 53)
+small : (c : tie.After-pow2)
+    → (0 < c .pow2 .result) × (c .pow2 .result ≤ 2 ^ 52)
+    × (c .before .args .a / c .pow2 .result * c .pow2 .result + (c .pow2 .result - 1) < 2 ^ 53)
 small c =
     let k = c .before .args .k in
     let p : 0 < c .pow2 .result = subst (λ (x : ℕ). 0 < x) (sym (c .pow2 .ensures)) (pow-pos k) in

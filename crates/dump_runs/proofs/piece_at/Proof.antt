@@ -49,7 +49,9 @@ distance-requires : tie.Need-distance-requires
 distance-requires c κs = let s = small (c .before .before .before .before .before .before .before .before) in omega (arith, s .1, s .2)
 
 last-of-requires-3 : tie.Need-last-of-requires-3
-last-of-requires-3 c κs = let s = small (c .before .before .before .before .before .before .before .before .before .before .before) in (s .0, omega (arith, s .1, s .2))
+last-of-requires-3 c κs =
+    let s = small (c .before .before .before .before .before .before .before .before .before .before .before) in
+    (s .0, omega (arith, s .1, s .2))
 
 returns : tie.Need-returns
 unfolding lookedAt
@@ -65,17 +67,20 @@ returns-2 c =
     let s = c .before .before .before .before .before .before .before .before in
     let a = s .args in
     piece (from s) (a .w) (s .pre .0) (a .a) (s .pre .1) (Block (c .before .before .before .g .given .0 .0))
-    (sym (c .before .before .before .before .before .find .ensures) ∙ c .before .before .before .g .given .1) (c .before .grant .ensures) (c .last-of2 .ensures)
+    (sym (c .before .before .before .before .before .find .ensures) ∙ c .before .before .before .g .given .1) (c .before .grant .ensures)
+    (c .last-of2 .ensures)
 
 returns-3 : tie.Need-returns-3
 returns-3 c =
     let s = c .before .before .before .before .before .before .before .before .before .before .before .before in
     let a = s .args in
     let t = c .before .before .before .before .before .before .before .s .given .0 .0 in
-    let e = sym (c .before .before .before .before .before .before .before .before .before .find .ensures) ∙ c .before .before .before .before .before .before .before .s .given .1 in
+    let e = sym (c .before .before .before .before .before .before .before .before .before .find .ensures)
+    ∙ c .before .before .before .before .before .before .before .s .given .1 in
     piece (from s) (a .w) (s .pre .0) (a .a) (s .pre .1) (Table t) e
     (answered (from s) (a .a) (a .w) (s .pre .0 .configured) t e
-    (c .before .answer .ensures) (c .before .before .gpi-through .ensures) (add-sub-cancel-left _ _) (c .before .before .before .distance .ensures))
+    (c .before .answer .ensures) (c .before .before .gpi-through .ensures) (add-sub-cancel-left _ _)
+    (c .before .before .before .distance .ensures))
     (c .last-of3 .ensures)
 
 pub piece-at-spec : {M : Type 1} → statement M

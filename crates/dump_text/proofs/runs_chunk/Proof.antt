@@ -100,7 +100,7 @@ loop-again c =
       omega arith,
       λ o′ x z. l .inv .3 o′ x
           (chunk-more _ _ _ _ (runStep (r .result)) (run-leads _ _ _ _ (l .inv .2) (r .ensures) .is) (l .inv .0) (omega arith)
-      (p .ensures) z),
+          (p .ensures) z),
     )
 
 same-length-2 : tie.Need-same-length-2 Inv-loop μ-loop

@@ -11,7 +11,8 @@ enum-told c = search needs
 returns : tie.Need-returns
 returns c =
     c .grant .ensures
-    ∙ ap (judged (c .before .before .before .before .before .args .c)) (sym (c .before .before .g .given .1) ∙ c .before .before .before .before .read .ensures)
+    ∙ ap (judged (c .before .before .before .before .before .args .c))
+    (sym (c .before .before .g .given .1) ∙ c .before .before .before .before .read .ensures)
 
 returns-2 : tie.Need-returns-2
 returns-2 c = ap (judged (c .before .before .before .args .c)) (sym (c .enum-told .given .1) ∙ c .before .before .read .ensures)

@@ -30,7 +30,8 @@ part-read-table-end : tie.Need-part-read-table-end
 part-read-table-end c = at-site (c .before .before) .fits
 
 read-table-requires : tie.Need-read-table-requires
-read-table-requires c κs = let s = at-site (c .before .before .before) in rw (add-sub-cancel-left _ _, length-table _ _ _ (s .fits)) (s .index, s .granule)
+read-table-requires c κs =
+    let s = at-site (c .before .before .before) in rw (add-sub-cancel-left _ _, length-table _ _ _ (s .fits)) (s .index, s .granule)
 
 returns : tie.Need-returns
 unfolding lookupOf lookedAt
@@ -42,7 +43,8 @@ returns-2 c = rw (sym (c .before .before .before .before .find .ensures) ∙ c .
 
 returns-3 : tie.Need-returns-3
 unfolding lookupOf lookedAt
-returns-3 c = rw (sym (c .before .before .before .before .before .before .find .ensures) ∙ c .before .before .before .before .s .given .1) (rw (add-sub-cancel-left _ _) at (c .read-table .ensures))
+returns-3 c = rw (sym (c .before .before .before .before .before .before .find .ensures) ∙ c .before .before .before .before .s .given .1)
+    (rw (add-sub-cancel-left _ _) at (c .read-table .ensures))
 
 pub lookup-spec : {M : Type 1} → statement M
 lookup-spec =

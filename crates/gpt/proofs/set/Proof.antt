@@ -16,7 +16,8 @@ use Rattle.gpt.proofs.set.Tie as tie
 at-site : (c : tie.After-s) →
     let p = c .before .before in
     let a = p .before .before .before .before .before .args in
-    (w : Widths) × Resolved (askOf (lent (a .c) (a .l0 .now) (a .arena .now) (a .base .0)) (Set (length (a .log .now)) (p .before .gpi-of .result)) (a .address .0))
+    (w : Widths) × Resolved (askOf (lent (a .c) (a .l0 .now) (a .arena .now) (a .base .0))
+    (Set (length (a .log .now)) (p .before .gpi-of .result)) (a .address .0))
     (a .l0 .now) w (c .s .given .0 .0)
 at-site c = resolved _ _ _ (sym (c .before .before .resolve .ensures) ∙ c .s .given .1)
 
@@ -54,7 +55,8 @@ unfolding setOf setAt
 returns-4 c =
     let s = c .before .before .before in
     let p = s .before .before in
-    rw (← p .before .gpi-of .ensures, sym (p .resolve .ensures) ∙ s .s .given .1, c .enum-told2 .given .1) record { answer = refl; arena = refl; log = refl }
+    rw (← p .before .gpi-of .ensures, sym (p .resolve .ensures) ∙ s .s .given .1, c .enum-told2 .given .1) record
+    { answer = refl; arena = refl; log = refl }
 
 pub set-spec : {M : Type 1} → statement M
 set-spec =

@@ -19,7 +19,8 @@ start c = c .before .before .before
 abbrev from : tie.After-table-named → Lent
 from c = let a = start c .args in lent (a .c) (a .l0 .now) (a .arena .now) (a .base .0)
 
-there : (c : tie.After-s) → namedBy (placed (from (c .before .before)) (start (c .before .before) .args .address .0)) ≡ At (c .s .given .0 .0)
+there : (c : tie.After-s)
+    → namedBy (placed (from (c .before .before)) (start (c .before .before) .args .address .0)) ≡ At (c .s .given .0 .0)
 there c = sym (c .before .before .table-named .ensures) ∙ c .s .given .1
 
 at-site : (c : tie.After-s) → Sited (length (start (c .before .before) .args .arena .now)) (c .s .given .0 .0)
@@ -31,14 +32,17 @@ check-table-requires c κs =
     rw (add-sub-cancel-left _ _) (site-regions (start (s .before .before) .args .arena .now) _ (at-site s))
 
 returns : tie.Need-returns
-returns c = let p = c .before .before .before in check-refused (from p) (start p .args .address .0) _ (sym (p .table-named .ensures) ∙ c .before .r .given .1)
+returns c =
+    let p = c .before .before .before in
+    check-refused (from p) (start p .args .address .0) _ (sym (p .table-named .ensures) ∙ c .before .r .given .1)
 
 returns-2 : tie.Need-returns-2
 returns-2 c =
     let k = c .before in
     let s = k .before .before .before .before in
     let p = s .before .before in
-    check-in (from p) (start p .args .address .0) _ (there s) (rw (add-sub-cancel-left _ _) at (k .check-table .ensures)) (c .verdict-of .ensures)
+    check-in (from p) (start p .args .address .0) _ (there s) (rw (add-sub-cancel-left _ _) at (k .check-table .ensures))
+    (c .verdict-of .ensures)
 
 pub check-spec : {M : Type 1} → statement M
 check-spec =

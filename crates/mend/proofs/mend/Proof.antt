@@ -19,7 +19,8 @@ start c = c .before .before .before
 abbrev from : tie.After-table-named → Lent
 from c = let a = start c .args in lent (a .c) (a .l0 .now) (a .arena .now) (a .base .0)
 
-there : (c : tie.After-s) → namedBy (placed (from (c .before .before)) (start (c .before .before) .args .address .0)) ≡ At (c .s .given .0 .0)
+there : (c : tie.After-s)
+    → namedBy (placed (from (c .before .before)) (start (c .before .before) .args .address .0)) ≡ At (c .s .given .0 .0)
 there c = sym (c .before .before .table-named .ensures) ∙ c .s .given .1
 
 at-site : (c : tie.After-s) → Sited (length (start (c .before .before) .args .arena .now)) (c .s .given .0 .0)
@@ -41,7 +42,8 @@ returns-2 c =
     let s = k .before .before .before .before in
     let p = s .before .before in
     rw (add-sub-cancel-left _ _)
-    (mend-in (from p) (start p .args .address .0) (start p .args .limit) _ (there s) _ _ (rw (add-sub-cancel-left _ _) at (k .mend-table .ensures)))
+    (mend-in (from p) (start p .args .address .0) (start p .args .limit) _ (there s) _ _
+    (rw (add-sub-cancel-left _ _) at (k .mend-table .ensures)))
 
 pub mend-spec : {M : Type 1} → statement M
 mend-spec =

@@ -7,7 +7,8 @@ use Rattle.replay.proofs.replay.Statement.{statement}
 use Rattle.replay.proofs.replay.Tie as tie
 
 abbrev Inv-loop : tie.InvT-loop
-Inv-loop l0₀ arena₀ want₀ log₀ record₀ left₀ s₀ t12 l0 arena want log «record» left s = (length l0 ≡ length l0₀) × (length arena ≡ length arena₀) × (length want ≡ length want₀) × (length log ≡ length log₀) × (length «record» ≡ 32)
+Inv-loop l0₀ arena₀ want₀ log₀ record₀ left₀ s₀ t12 l0 arena want log «record» left s = (length l0 ≡ length l0₀)
+    × (length arena ≡ length arena₀) × (length want ≡ length want₀) × (length log ≡ length log₀) × (length «record» ≡ 32)
 
 abbrev μ-loop : tie.MeasureT-loop
 μ-loop l0₀ arena₀ want₀ log₀ record₀ left₀ s₀ t12 l0 arena want log «record» left s = left
@@ -28,13 +29,23 @@ same-length-4 : tie.Need-same-length-4 Inv-loop μ-loop
 same-length-4 c = c .before .before .before .before .before .before .before .loop .inv .3
 
 loop-less : tie.Need-loop-less Inv-loop μ-loop
-loop-less c = let h = c .before .before .before .before .before .before .before .before .before .before .before .before .before .before .before .before .before .before .before .before .before .before .before .before .before .loop-test .taken in omega arith
+loop-less c =
+    let h = c .before .before .before .before .before .before .before .before .before .before .before .before .before .before .before
+    .before .before .before .before .before .before .before .before .before .before .loop-test .taken in omega arith
 
 loop-again : tie.Need-loop-again Inv-loop μ-loop
 loop-again c =
-    let v = c .before .before .before .before .before .before .before .before .before .before .before .before .before .before .before .before .before .before .before .before .before .before .before .before .before .before .loop .inv in
-    let k = c .before .before .before .before .before .before .before .before .step .kept in
-    (k .0 ∙ v .0, k .1 .0 ∙ v .1, k .1 .1 .0 ∙ v .2, k .1 .1 .1 .0 ∙ v .3, c .before .before .before .before .before .before .before .before .before .before .before .before .before .before .before .before .before .before .before .before .before .before .before .read-full2 .kept .1 .0 ∙ v .4)
+    let v = c .before .before .before .before .before .before .before .before .before .before .before .before .before .before .before
+    .before .before .before .before .before .before .before .before .before .before .before .loop .inv in
+    let k = c .before .before .before .before .before .before .before .before .step .kept in (
+      k .0 ∙ v .0,
+      k .1 .0 ∙ v .1,
+      k .1 .1 .0 ∙ v .2,
+      k .1 .1 .1 .0
+          ∙ v .3,
+      c .before .before .before .before .before .before .before .before .before .before .before .before .before .before .before
+          .before .before .before .before .before .before .before .before .read-full2 .kept .1 .0 ∙ v .4,
+    )
 
 same-length-5 : tie.Need-same-length-5 Inv-loop μ-loop
 same-length-5 c = c .before .before .loop .inv .0
