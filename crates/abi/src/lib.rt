@@ -1,6 +1,6 @@
 // The C interface: docs/ABI.md. Each export packs what its call answers into one number; what it leaves is what the call leaves.
 ghost use mathlib.Core.Path.{_≡_};
-ghost use Prim.Native.Nat.{_+_, _*_, _<_, _≤_};
+ghost use Prim.Native.Nat.{_+_, _*_, _≤_};
 ghost use Rattle.abi.specs.Packed.{lookedPacked, changedPacked, mendedPacked, checkedPacked};
 ghost use Rattle.abi.specs.Inner.{Small, Few};
 ghost use Rattle.config.specs.Flags.{configOf};

@@ -1,6 +1,5 @@
 // Demand 3 on C7: its set cut after each number of stores, every granule looked up, and mends cut after each number of stores and run
 // again. C7 makes 513 stores, of which the granule store is the last.
-ghost use mathlib.Core.Path.{_≡_};
 ghost use Prim.Native.Nat.{_≤_};
 use crate::base;
 use gpt::Looked;

@@ -13,9 +13,8 @@ use lib.ListN.{length, length-append}
 use lib.Pow.{pow-add, pow-pos}
 use lib.Seq.{take-all}
 use Rattle.gpi.proofs.Rules.{num-at}
-use Rattle.gpi.specs.Gpi.{num}
-use Rattle.theory.specs.Format.{Format, Laws, reading}
-use Rattle.theory.specs.Normal.{at, normal}
+use Rattle.theory.specs.Format.{Format, Laws}
+use Rattle.theory.specs.Normal.{at}
 use Rattle.theory.specs.Stores.{Store, apply, cut}
 use Rattle.theory.specs.Events.{readLog}
 use Rattle.theory.specs.Set.{Agrees, lead, setStores, changedFlat}
@@ -26,7 +25,7 @@ use Rattle.theory.proofs.Normal.{same-normal, length-normal}
 use Rattle.theory.proofs.Set.{stores-set}
 use Rattle.theory.proofs.Log.{arena-cut}
 use Rattle.theory.proofs.Cut.{flat-before, flat-after, cut-outside, cut-target-new}
-use Rattle.l1.specs.L1.{readAt, flat}
+use Rattle.l1.specs.L1.{flat}
 use Rattle.l1.proofs.Alike.{flat-idem, reads-num, same-reading}
 use Rattle.l1.proofs.Arm.{readingOf, read-is}
 use Rattle.config.specs.declared.Widths.{Widths}

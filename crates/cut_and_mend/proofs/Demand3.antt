@@ -1,12 +1,12 @@
 -- DEMAND 3, the theorem over the definitions of lookup, set, mend and check: `demand3` under the demand's own premises, `promise` under
 -- less.
-use mathlib.Core.Path.{_≡_, refl, sym, ap, _∙_}
+use mathlib.Core.Path.{sym, ap, _∙_}
 use mathlib.Core.List.{List}
 use Prim.Native.Nat.{ℕ, _+_, _<_, _^_}
 use native.Mathlib.Decide.{decLt}
 use native.Mathlib.Omega.{arith}
 use lib.Dec.{lit<}
-use lib.ListN.{drop, length-take, List·getD-eq-default}
+use lib.ListN.{length-take, List·getD-eq-default}
 use Rattle.gpi.proofs.Rules.{num-at}
 use Rattle.theory.specs.Normal.{at}
 use Rattle.theory.specs.Arena.{tableAt}
@@ -14,8 +14,7 @@ use Rattle.theory.proofs.Arena.{table-word}
 use Rattle.config.specs.Index.{l0Index, l1Words, l1Index}
 use Rattle.config.proofs.Bounds.{listed-widths}
 use Rattle.config.proofs.Geometry.{l1-in}
-use Rattle.resolve.specs.declared.Place.the-variants.{Table}
-use Rattle.resolve.specs.Lent.{Lent, placed}
+use Rattle.resolve.specs.Lent.{Lent}
 use Rattle.resolve.proofs.Found.{own-place}
 use Rattle.gpt.specs.Lookup.{lookedNumber, lookedGpi}
 use Rattle.gpt.specs.Set.{setOf, changedNumber}

@@ -11,7 +11,7 @@ use Rattle.gpi.specs.declared.Gpi.{Gpi}
 use Rattle.gpi.specs.declared.Nibble.{Nibble}
 use Rattle.gpi.specs.declared.Nibble.the-variants.{Known, Reserved}
 use Rattle.gpi.specs.Gpi.{num, gpiAt, isKnown}
-use Rattle.gpi.proofs.Rules.{num-at, gpi-num}
+use Rattle.gpi.proofs.Rules.{num-at}
 use Rattle.theory.specs.Normal.{at}
 use Rattle.theory.specs.Stores.{apply}
 use Rattle.theory.specs.declared.Fused.{Fused}
@@ -33,8 +33,9 @@ use Rattle.resolve.proofs.Numbers.{refusal-number}
 use Rattle.resolve.proofs.Promises.{resolved, gpi-taken}
 use Rattle.resolve.proofs.Found.{Found, found, table-length}
 use Rattle.stores.specs.declared.Tally.{Tally}
+use Rattle.stores.specs.Done.{tallyOf}
 use Rattle.gpt.specs.Set.{Outcome, changedNumber, changedRecords, changedStores, changedBy}
-use Rattle.gpt.specs.Set.{tallyOf, targetAt, siteEvents, siteSet, setAt, setOf}
+use Rattle.gpt.specs.Set.{targetAt, siteEvents, siteSet, setAt, setOf}
 use Rattle.cut_and_mend.specs.Demand3.{Answers0or10, answers-0, answers-10}
 
 -- the set's outcome o at the site s: the events that happened there

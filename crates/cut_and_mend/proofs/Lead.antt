@@ -4,12 +4,11 @@ use mathlib.Core.List.{List, [], _∷_, _++_, append-assoc}
 use Prim.Native.Nat.{ℕ, zero, suc, _+_, _-_, _*_, _≤_}
 use native.Mathlib.Nat.{zero-add}
 use native.Mathlib.Omega.{arith}
-use lib.Dec.{eqb}
 use lib.ListN.{length, drop, length-append}
 use Rattle.theory.specs.Format.{Format, Laws, gpi}
 use Rattle.theory.specs.Normal.{at, span, base}
 use Rattle.theory.specs.Stores.{fill}
-use Rattle.theory.specs.Events.{Event, filled, granule, barrier, kindNumber, stores, records, logged}
+use Rattle.theory.specs.Events.{Event, filled, granule, barrier, stores, records, logged}
 use Rattle.theory.specs.Set.{Target, fillEvent, barriers, shatter, breaks, broken, brokenBarriers, newWord, lead, storeEvents, setEvents}
 use Rattle.theory.proofs.Events.{barrier-number, barrier-tells, stores-append, logged-front}
 use Rattle.theory.proofs.Set.{last, stores-barriers, at-most-13}

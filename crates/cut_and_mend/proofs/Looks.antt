@@ -1,14 +1,13 @@
 -- Lookups of what is lent with another table in the place of the target's: in that table by what its granule reads, elsewhere as before.
-use mathlib.Core.Path.{_≡_, refl, sym, ap, ap₂, _∙_, subst}
+use mathlib.Core.Path.{_≡_, sym, ap, ap₂, _∙_, subst}
 use mathlib.Core.Bool.{true}
 use mathlib.Core.List.{List}
-use Prim.Native.Nat.{ℕ, _+_, _≤_, _<_}
+use Prim.Native.Nat.{ℕ, _+_, _<_}
 use native.Mathlib.Decide.{ℕ-discrete, decLt}
 use native.Mathlib.Omega.{arith}
 use lib.ListN.{length}
 use Rattle.gpi.specs.declared.Gpi.{Gpi}
 use Rattle.theory.specs.Normal.{at}
-use Rattle.theory.specs.Arena.{laid}
 use Rattle.theory.proofs.Arena.{table-word, laid-before, laid-after}
 use Rattle.l1.specs.declared.Reading.the-variants.{Known}
 use Rattle.l1.specs.L1.{readAt}

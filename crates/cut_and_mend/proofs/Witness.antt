@@ -1,6 +1,5 @@
 -- Demand 3's premises can be met, by arrangement B with C7, and by a set that answers 10.
 use mathlib.Core.Path.{_≡_, refl, sym, ap, _∙_, subst}
-use mathlib.Core.Bool.{true}
 use mathlib.Core.List.{List, _∷_}
 use Prim.Native.Nat.{ℕ, zero, suc, _+_, _*_, _<_, _^_}
 use native.Mathlib.Decide.{decLt}

@@ -16,7 +16,7 @@ use Rattle.resolve.specs.declared.Place.the-variants.{Refused as Nowhere, Block
 use Rattle.resolve.specs.declared.Refusal.the-variants.{OutsideArena}
 use Rattle.resolve.specs.Refusals.{outside}
 use Rattle.resolve.specs.declared.Call.the-variants.{Plain}
-use Rattle.resolve.specs.Place.{siteOf, entered, placeOf}
+use Rattle.resolve.specs.Place.{siteOf, entered}
 use Rattle.resolve.specs.Lent.{Lent, askOf, placeFor}
 use Rattle.resolve.specs.Inner.{onward}
 use Rattle.resolve.proofs.Chain.{through}

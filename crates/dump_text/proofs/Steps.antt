@@ -10,7 +10,6 @@ use borrow.Author.Tests.{eq-eqb, ne-eqb}
 use lib.Dec.{lit<}
 use lib.ListN.{length}
 use lib.Pow.{pow-mono}
-use Rattle.config.specs.declared.Config.{Config}
 use Rattle.config.specs.declared.Widths.{Widths}
 use Rattle.config.specs.declared.Configured.{Configured}
 use Rattle.config.specs.declared.Configured.the-variants.{Ok, InvalidConfiguration, GptNotInitialized}
@@ -25,7 +24,7 @@ use Rattle.dump_image.specs.declared.Fault.{Fault}
 use Rattle.dump_image.specs.declared.Fault.the-variants.{Version, Short, Counts, Length}
 use Rattle.dump_image.specs.declared.Read.{Read}
 use Rattle.dump_image.specs.declared.Read.the-variants.{Bad, Whole}
-use Rattle.dump_image.specs.Image.{readOf, faultNumber, l0Words, arenaWords}
+use Rattle.dump_image.specs.Image.{readOf, faultNumber}
 use Rattle.dump_lines.specs.declared.Run.{Run}
 use Rattle.dump_lines.specs.Lines.{ascii, header, line, told}
 use Rattle.dump_lines.proofs.Lengths.{short-dec, length-name, length-line, length-header, length-told}

@@ -1,5 +1,5 @@
 -- What a lookup takes from the arena: its length, and what the one word reads at the one granule. Demand 3 rests on it.
-use mathlib.Core.Path.{_≡_, refl, sym, ap, _∙_}
+use mathlib.Core.Path.{_≡_, refl, ap, _∙_}
 use mathlib.Core.Bool.{true}
 use mathlib.Core.List.{List}
 use Prim.Native.Nat.{ℕ}

@@ -1,9 +1,8 @@
 -- A set at a place of the arena, over plain lists: what the table's set asks is there, and what it made in the table is made in the arena.
-use mathlib.Core.Path.{_≡_, refl, ap, ap₂, _∙_}
+use mathlib.Core.Path.{_≡_, refl, ap, _∙_}
 use mathlib.Core.Bool.{Bool, true, false}
 use mathlib.Core.List.{List}
 use Prim.Native.Nat.{ℕ, _+_, _*_, _≤_}
-use native.Mathlib.Nat.{zero-add}
 use native.Mathlib.Omega.{arith}
 use borrow.Rule.Slice.PartMut.{put-same}
 use lib.ListN.{length}
@@ -13,7 +12,7 @@ use Rattle.theory.specs.Normal.{at, span}
 use Rattle.theory.specs.declared.Fused.{Fused}
 use Rattle.theory.specs.declared.Fused.the-variants.{Nowhere, Level, Refused as Met}
 use Rattle.theory.specs.Stores.{apply}
-use Rattle.theory.specs.Events.{Event, stores, count, records, logged}
+use Rattle.theory.specs.Events.{stores, records, logged}
 use Rattle.theory.specs.Set.{fusing}
 use Rattle.theory.specs.Arena.{tableAt, laid}
 use Rattle.theory.proofs.Arena.{length-table}
@@ -28,9 +27,10 @@ use Rattle.set_table.specs.declared.Answer.{Answer}
 use Rattle.set_table.specs.Inner.{Placed}
 use Rattle.set_table.specs.Table.{answerOf, happens, answers}
 use Rattle.set_table.specs.Table.{Made as TableMade}
+use Rattle.set_table.proofs.Sets.{tally-is}
 use Rattle.gpt.specs.declared.Changed.{Changed}
 use Rattle.gpt.specs.Inner.{changedOf, setOn}
-use Rattle.gpt.specs.Set.{Made, changedBy, tallyOf, targetAt, siteEvents, siteSet}
+use Rattle.gpt.specs.Set.{Made, changedBy, targetAt, siteSet}
 
 span-most : (u : ℕ) → u ≤ 32 → span u 2 ≤ 8192
 unfolding span
@@ -61,18 +61,11 @@ module _ (A L : List ℕ) {s : Site} (x : ℕ) (g : Gpi) (h : Sited (length A) s
         few = omega (arith, span-most (s .unit) (h .unit-most));
       }
 
-  -- the answer by what the scans came to, and the tally of events that started from none
-  answer-is : (f : Fused) (es : List Event) (a : Tally) → a .records ≡ length es → a .stores ≡ count es
-      → changedOf (answerOf f a) ≡ changedBy f (tallyOf es)
-  answer-is f es a e d = ap (λ (t : Tally). changedOf (answerOf f t)) same ∙ by f (tallyOf es)
-    where
-      same : a ≡ tallyOf es
-      same = ap₂ (λ (m n : ℕ). record { records = m; stores = n }) e d
-
-      by : (f : Fused) (t : Tally) → changedOf (answerOf f t) ≡ changedBy f t
-      by Nowhere t = refl
-      by (Level l) t = refl
-      by (Met k) t = refl
+  -- the answer by what the scans came to, as the call's
+  changed-is : (f : Fused) (a : Tally) → changedOf (answerOf f a) ≡ changedBy f a
+  changed-is Nowhere a = refl
+  changed-is (Level l) a = refl
+  changed-is (Met k) a = refl
 
   -- what the set of the table made is what the set of the site makes
   pub made : {p L′ : List ℕ} {a : Answer} {r : Changed}
@@ -88,9 +81,8 @@ module _ (A L : List ℕ) {s : Site} (x : ℕ) (g : Gpi) (h : Sited (length A) s
           let d = n .done in
           rw v record {
             answer =
-                e ∙ ap changedOf (n .answer)
-                ∙ answer-is (fusing arm (s .unit) table (targetAt s x (num g))) (siteEvents (lent c l A b) s x (num g)) (n .tally)
-                (d .records ∙ zero-add _) (d .stores ∙ zero-add _);
+                let f = fusing arm (s .unit) table (targetAt s x (num g)) in
+                e ∙ ap changedOf (n .answer) ∙ changed-is f (n .tally) ∙ ap (changedBy f) (tally-is d);
             arena = ap (laid (s .start) (s .words) A) (d .table);
             log = d .log;
           }

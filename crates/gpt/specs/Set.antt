@@ -9,7 +9,7 @@ use Rattle.gpi.specs.declared.Nibble.the-variants.{Known, Reserved}
 use Rattle.gpi.specs.Gpi.{num, gpiAt}
 use Rattle.theory.specs.Normal.{at}
 use Rattle.theory.specs.Stores.{apply}
-use Rattle.theory.specs.Events.{Event, stores, count, logged}
+use Rattle.theory.specs.Events.{Event, stores, logged}
 use Rattle.theory.specs.declared.Fused.{Fused}
 use Rattle.theory.specs.declared.Fused.the-variants.{Nowhere as Unfused, Level, Refused as Met}
 use Rattle.theory.specs.Set.{Target, fusing, setEvents}
@@ -23,6 +23,7 @@ use Rattle.resolve.specs.declared.Refusal.the-variants.{InvalidRequest, Invalid
 use Rattle.resolve.specs.Refusals.{refusalNumber}
 use Rattle.resolve.specs.Lent.{Lent, placeFor, tableIn, layIn}
 use Rattle.stores.specs.declared.Tally.{Tally}
+use Rattle.stores.specs.Done.{tallyOf}
 use Rattle.gpt.specs.declared.Changed.{Changed}
 use Rattle.gpt.specs.declared.Changed.the-variants.{Done, Stopped, Refused}
 
@@ -66,10 +67,6 @@ targetAt s x g = record { word = s .index; granule = s .granule; gpi = g; addres
 -- the events of a set at a site
 abbrev pub siteEvents : Lent → Site → ℕ → ℕ → List Event
 siteEvents q s x g = setEvents (formatOf (q .config)) (s .unit) (tableIn q s) (targetAt s x g)
-
--- "The store count is all fill counts plus one", the record count that of the events
-abbrev pub tallyOf : List Event → Tally
-tallyOf es = record { records = length es; stores = count es }
 
 -- the answer by what the fuse scans came to; 10: "the fuse scan met an invalid entry"
 abbrev pub changedBy : Fused → Tally → Changed

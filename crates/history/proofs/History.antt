@@ -3,14 +3,13 @@
 use mathlib.Core.Path.{_≡_, refl, sym, ap, _∙_, subst}
 use mathlib.Core.Bool.{Bool, true, false, cond, not, _&&_}
 use mathlib.Core.List.{List, [], _∷_}
-use Prim.Native.Nat.{ℕ, zero, suc, _*_, _/_, _≤_, _<_}
+use Prim.Native.Nat.{ℕ, zero, suc, _/_, _<_}
 use native.Mathlib.Decide.{ℕ-discrete}
 use native.Mathlib.Omega.{arith}
 use borrow.Author.Tests.{eq-eqb, ne-eqb, ltb-true, ltb-false}
 use lib.Dec.{eqb, ltb}
-use lib.ListN.{length, take}
+use lib.ListN.{take}
 use Rattle.gpi.specs.Gpi.{gpiAt}
-use Rattle.theory.specs.Normal.{span}
 use Rattle.theory.specs.Stores.{apply}
 use Rattle.theory.specs.Events.{stores}
 use Rattle.theory.specs.Mend.{mend, mends as mendsOf}
@@ -20,7 +19,6 @@ use Rattle.theory.proofs.Mend.{length-mend}
 use Rattle.theory.proofs.Whole.{set-whole, mends-whole}
 use Rattle.config.specs.declared.Widths.{Widths}
 use Rattle.config.specs.declared.Configured.the-variants.{Ok as Configured}
-use Rattle.config.specs.Fields.{configuredOf}
 use Rattle.config.specs.Index.{l0Index, l1Words, granuleBytes}
 use Rattle.config.specs.Format.{formatOf}
 use Rattle.config.proofs.Format.{format-laws}
@@ -31,7 +29,6 @@ use Rattle.resolve.specs.Refusals.{refusalNumber}
 use Rattle.resolve.specs.Lent.{Lent, placed, tableIn, layIn}
 use Rattle.resolve.proofs.Numbers.{refusal-number}
 use Rattle.resolve.proofs.Found.{Found, found, table-length}
-use Rattle.gpt.specs.declared.Looked.{Looked}
 use Rattle.gpt.specs.declared.Looked.the-variants.{Ok}
 use Rattle.gpt.specs.Lookup.{lookupOf}
 use Rattle.gpt.specs.Set.{Outcome, changedStores, targetAt, siteEvents}

@@ -1,9 +1,9 @@
 -- A table laid in the place of an address's: the tables stay apart, and those known to be whole are, if it is.
-use mathlib.Core.Path.{_≡_, refl, sym, ap, _∙_, subst}
+use mathlib.Core.Path.{_≡_, sym, ap, _∙_, subst}
 use mathlib.Core.Logic.{_⊎_, inl, inr}
 use mathlib.Core.Bool.{Bool, true}
 use mathlib.Core.List.{List}
-use Prim.Native.Nat.{ℕ, _+_, _-_, _*_, _≤_, _<_, _^_}
+use Prim.Native.Nat.{ℕ, _+_, _-_, _*_, _≤_, _<_}
 use native.Mathlib.Decide.{ℕ-discrete, decLt}
 use native.Mathlib.Omega.{arith}
 use lib.Dec.{lit<}
@@ -12,24 +12,22 @@ use lib.Pow.{pow-pos}
 use Rattle.gpi.specs.declared.Size.the-variants.{MB2}
 use Rattle.pa.specs.declared.PA.{PA}
 use Rattle.pa.specs.Pa.{pa}
-use Rattle.theory.specs.Arena.{tableAt, laid}
+use Rattle.theory.specs.Arena.{tableAt}
 use Rattle.theory.specs.Whole.{Whole}
 use Rattle.theory.specs.Set.{Agrees}
 use Rattle.theory.proofs.Arena.{length-table, table-other}
 use Rattle.theory.proofs.Whole.{whole-agrees}
 use Rattle.l0.specs.declared.L0Entry.the-variants.{Table as TableWord}
-use Rattle.l0.specs.L0.{l0Of}
 use Rattle.config.specs.declared.Widths.{Widths}
 use Rattle.config.specs.declared.Configured.the-variants.{Ok}
 use Rattle.config.specs.Fields.{configuredOf}
 use Rattle.config.specs.Index.{l0Index, l1Words, l1Index, sizeWords}
 use Rattle.config.specs.Format.{formatOf}
 use Rattle.config.proofs.Format.{format-laws}
-use Rattle.config.proofs.Bounds.{listed-widths}
 use Rattle.config.proofs.Geometry.{words-least, l1-in}
 use Rattle.resolve.specs.declared.Site.{Site}
-use Rattle.resolve.specs.Lent.{Lent, tableIn, layIn}
-use Rattle.resolve.proofs.Found.{Found, table-length, lay-length, lay-table}
+use Rattle.resolve.specs.Lent.{Lent, layIn}
+use Rattle.resolve.proofs.Found.{Found, lay-length, lay-table}
 use Rattle.cut_and_mend.specs.Demand3.{TableAt, Holds, Ready}
 use Rattle.cut_and_mend.proofs.Looks.{table-of}
 use Rattle.history.specs.History.{Sound}

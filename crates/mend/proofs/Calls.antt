@@ -20,7 +20,7 @@ use Rattle.resolve.proofs.Found.{Found, lay-table, lay-again, lay-place}
 use Rattle.mend_table.specs.Normal.{isNormal}
 use Rattle.mend_table.proofs.Yes.{normal-yes, yes-the-one}
 use Rattle.mend.specs.declared.Checked.the-variants.{Yes}
-use Rattle.mend.specs.Outcome.{mendedNumber, namedBy, mendedAt, mendOf, verdict, checkedAt, checkOf}
+use Rattle.mend.specs.Outcome.{mendedNumber, mendedAt, mendOf, verdict, checkedAt, checkOf}
 use Rattle.mend.specs.Mends.{Mend, AllName, Mending}
 
 yes-true : (v : Bool) → verdict v ≡ Yes → v ≡ true

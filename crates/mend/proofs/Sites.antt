@@ -1,8 +1,8 @@
 -- The calls by the table that their address names: what it promises to `mend_table` and `check_table`, and what each case comes to.
-use mathlib.Core.Path.{_≡_, refl, sym, ap, _∙_}
+use mathlib.Core.Path.{_≡_, refl, ap, _∙_}
 use mathlib.Core.Bool.{Bool}
 use mathlib.Core.List.{List}
-use Prim.Native.Nat.{ℕ, _+_, _≤_, _<_, _^_}
+use Prim.Native.Nat.{ℕ}
 use native.Mathlib.Omega.{arith}
 use lib.ListN.{length}
 use Rattle.theory.specs.Arena.{tableAt, laid}
@@ -18,7 +18,6 @@ use Rattle.resolve.specs.Lent.{Lent, placed, tableIn, layIn}
 use Rattle.resolve.proofs.Found.{found}
 use Rattle.mend_table.specs.Mend.{Regions, Repaired}
 use Rattle.mend_table.specs.Normal.{isNormal}
-use Rattle.mend.specs.declared.Named.{Named}
 use Rattle.mend.specs.declared.Named.the-variants.{At, Refused as Unnamed}
 use Rattle.mend.specs.declared.Mended.the-variants.{Ok, Refused}
 use Rattle.mend.specs.declared.Checked.{Checked}

@@ -1,8 +1,8 @@
 -- An address that lies in an L1 table: what its site is, where the other addresses of its L0 entry lie, and that all this stays whatever
 -- table is laid there. Lookups, mends and demand 3 cite it.
-use mathlib.Core.Path.{_≡_, refl, sym, ap, ap₂, _∙_}
+use mathlib.Core.Path.{_≡_, refl, ap, _∙_}
 use mathlib.Core.List.{List}
-use Prim.Native.Nat.{ℕ, _+_, _-_, _*_, _/_, _≤_, _<_, _^_}
+use Prim.Native.Nat.{ℕ, _+_, _-_, _*_, _/_, _<_, _^_}
 use native.Mathlib.Omega.{arith}
 use lib.ListN.{length, getD}
 use Rattle.gpi.specs.declared.Size.the-variants.{MB2}

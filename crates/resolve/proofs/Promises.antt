@@ -5,8 +5,8 @@ use mathlib.Core.List.{List, _++_}
 use Prim.Native.Nat.{ℕ, _+_, _-_, _*_, _%_, _≤_, _<_, _^_}
 use native.Mathlib.Nat.{lt-of-lt-of-le}
 use native.Mathlib.Omega.{arith}
-use borrow.Author.Tests.{le-ltb, ltb-false, leb-false}
-use lib.Dec.{lit<, ltb, leb}
+use borrow.Author.Tests.{le-ltb}
+use lib.Dec.{lit<}
 use lib.ListN.{length, getD, drop, length-drop, length-append, List·getD-append}
 use lib.Seq.{length-take-le, getD-take, getD-drop}
 use Rattle.gpi.specs.declared.Gpi.{Gpi}
@@ -18,7 +18,6 @@ use Rattle.pa.specs.Pa.{pa}
 use Rattle.theory.specs.Normal.{span}
 use Rattle.l0.specs.declared.L0Entry.{L0Entry}
 use Rattle.l0.specs.declared.L0Entry.the-variants.{Block as BlockWord, Table as TableWord, Invalid}
-use Rattle.l0.specs.L0.{l0Of}
 use Rattle.config.specs.declared.Config.{Config}
 use Rattle.config.specs.declared.Widths.{Widths}
 use Rattle.config.specs.declared.Configured.{Configured}
@@ -34,7 +33,7 @@ use Rattle.resolve.specs.declared.Refusal.the-variants.{OutsideArena}
 use Rattle.resolve.specs.declared.Site.{Site}
 use Rattle.resolve.specs.declared.Place.{Place}
 use Rattle.resolve.specs.declared.Place.the-variants.{Refused, Block, Table}
-use Rattle.resolve.specs.Refusals.{arenaBad, logShort, gpiBad, outside}
+use Rattle.resolve.specs.Refusals.{arenaBad, gpiBad, outside}
 use Rattle.resolve.specs.Place.{siteOf, asks, tableOf, configured, located, placeOf}
 use Rattle.resolve.specs.Sited.{Sited, Passed, Resolved}
 use Rattle.resolve.specs.Inner.{wordOf, onward}

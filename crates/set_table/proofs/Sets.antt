@@ -29,10 +29,10 @@ use Rattle.l1.specs.L1.{l1Of, flatOf}
 use Rattle.l1.specs.Arm.{arm, levelOf, sizeOf}
 use Rattle.l1.proofs.Arm.{level-num}
 use Rattle.stores.specs.declared.Tally.{Tally}
-use Rattle.stores.specs.Done.{Done, Room, fresh}
+use Rattle.stores.specs.Done.{Done, Room, fresh, tallyOf}
 use Rattle.stores.proofs.Events.{none, after, left}
 use Rattle.set_table.specs.declared.Answer.{Answer}
-use Rattle.set_table.specs.Table.{answerOf, tallyOf, Made}
+use Rattle.set_table.specs.Table.{answerOf, Made}
 use Rattle.set_table.specs.Inner.{stored, scanned, grantEvents}
 
 -- events from a fresh tally: the counts are those of the events

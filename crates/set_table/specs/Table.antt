@@ -4,12 +4,11 @@ use mathlib.Core.Path.{_≡_}
 use mathlib.Core.Bool.{cond}
 use mathlib.Core.List.{List, []}
 use Prim.Native.Nat.{ℕ}
-use lib.ListN.{length}
 use Rattle.gpi.specs.Gpi.{num}
 use Rattle.theory.specs.declared.Fused.{Fused}
 use Rattle.theory.specs.declared.Fused.the-variants.{Nowhere, Level, Refused}
 use Rattle.theory.specs.Normal.{at}
-use Rattle.theory.specs.Events.{Event, count}
+use Rattle.theory.specs.Events.{Event}
 use Rattle.theory.specs.Set.{Target, fusing, setEvents}
 use Rattle.l1.specs.Arm.{arm}
 use Rattle.stores.specs.declared.Tally.{Tally}
@@ -31,10 +30,6 @@ abbrev pub answerOf : Fused → Tally → Answer
 answerOf Nowhere a = Finished a
 answerOf (Level l) a = Finished a
 answerOf (Refused k) a = Stopped a
-
--- "The store count is all fill counts plus one", the record count that of the events
-abbrev pub tallyOf : List Event → Tally
-tallyOf es = record { records = length es; stores = count es }
 
 -- "entry at the address invalid" is refusal 9 and changes nothing; else the events happen
 abbrev pub happens : SetAt → List ℕ → List Event

@@ -24,3 +24,7 @@ pub record Room (t l : List ℕ) (o : ℕ) (a : Tally) (k n : ℕ) : Type 0 wher
 
 abbrev pub fresh : Tally
 fresh = record { records = 0; stores = 0 }
+
+-- "The store count is all fill counts plus one", the record count that of the events
+abbrev pub tallyOf : List Event → Tally
+tallyOf es = record { records = length es; stores = count es }

@@ -1,6 +1,6 @@
 -- Laws of stores, in the crate `theory`: lists of them append; a fill, by its turns and by index; stores that keep what a map says of the
 -- words, and cuts of them.
-use mathlib.Core.Path.{_≡_, refl, sym, ap, _∙_}
+use mathlib.Core.Path.{_≡_, refl, ap, _∙_}
 use mathlib.Core.List.{List, [], _∷_, _++_, map}
 use Prim.Native.Nat.{ℕ, zero, suc, _+_, _-_, _≤_, _<_}
 use native.Mathlib.Nat.{add-zero, add-suc, suc-add}

@@ -14,18 +14,12 @@ Inv-loop x n₀ v₀ n v = n + length (dec v) ≡ length (dec x) + 1
 abbrev μ-loop : tie.MeasureT-loop
 μ-loop x n₀ v₀ n v = v
 
-loop-holds : tie.Need-loop-holds Inv-loop μ-loop
-loop-holds c = omega arith
-
 add-n : tie.Need-add-n Inv-loop μ-loop
 add-n c =
     let a = c .before .before .args in
     let s = length-some (c .before .loop .v) in
     let l = length-dec 19 (a .x) (omega arith) in
     omega arith
-
-loop-less : tie.Need-loop-less Inv-loop μ-loop
-loop-less c = omega arith
 
 loop-again : tie.Need-loop-again Inv-loop μ-loop
 loop-again c = let m = length-more (c .before .loop .v) (omega arith) in omega arith
@@ -37,4 +31,4 @@ returns c =
     (omega arith, omega arith)
 
 pub dec-len-spec : {M : Type 1} → statement M
-dec-len-spec = tie.close (tie.spec Inv-loop μ-loop loop-holds add-n loop-less loop-again returns)
+dec-len-spec = tie.close (tie.spec Inv-loop μ-loop (λ c. omega arith) add-n (λ c. omega arith) loop-again returns)

@@ -1,5 +1,5 @@
 -- `replay::replay` is safe and ends: the list says first how many records follow. The lengths stay.
-use mathlib.Core.Path.{_≡_, refl, sym, _∙_}
+use mathlib.Core.Path.{_≡_, refl, _∙_}
 use native.Mathlib.Omega.{arith}
 use borrow.Author.Needs.{needs}
 use lib.ListN.{length}

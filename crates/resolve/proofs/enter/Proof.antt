@@ -2,7 +2,6 @@
 use mathlib.Core.Path.{_≡_, sym, ap, _∙_}
 use mathlib.Core.Bool.{false}
 use borrow.Author.Needs.{needs}
-use Rattle.l0.specs.declared.L0Entry.the-variants.{Table as TableWord}
 use Rattle.config.specs.Index.{l1Words}
 use Rattle.config.proofs.Geometry.{l1-most}
 use Rattle.resolve.specs.declared.Place.the-variants.{Table}
