@@ -48,7 +48,7 @@ module _ (w : Widths) (l : Listed w) where
 
   -- 2 MB is 21 bits, and each size has four more than the one below
   bytes_pow : (s : Size) → bytes_of s ≡ 2 ^ (17 + 4 * size_num s)
-  bytes_pow s = elim s [ MB2 ↦ refl | MB32 ↦ refl | MB512 ↦ refl ]
+  bytes_pow s = elim s as (λ k. bytes_of k ≡ 2 ^ (17 + 4 * size_num k)) [ MB2 ↦ refl | MB32 ↦ refl | MB512 ↦ refl ]
 
   pub words_pow : (s : Size) → 1 ≤ size_num s → size_words w s ≡ 2 ^ (13 + 4 * size_num s - w.pgs)
   words_pow s h =

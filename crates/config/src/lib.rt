@@ -11,7 +11,7 @@ use gpi::{Gpi, Size};
 use pa::PA;
 
 // The fields that a call is lent: PPS, PGS, L0GPTSZ, the flags, and the features GDI and GPC2.
-#[derive(Drop)]
+#[derive(Clone, Copy)]
 pub struct Config {
     pub pps: u8,
     pub pgs: u8,
@@ -54,21 +54,21 @@ pub fn from_flags(pps: u8, pgs: u8, l0gptsz: u8, flags: u8) -> Config
 }
 
 // The address bits that a field's value means, where it is listed.
-#[derive(Drop)]
+#[derive(Clone, Copy)]
 pub enum Width {
     Bits(u64),
     Unlisted,
 }
 
 // The widths of a configuration that was taken.
-#[derive(Drop)]
+#[derive(Clone, Copy)]
 pub struct Widths {
     pub pps: u64,
     pub pgs: u64,
     pub l0gptsz: u64,
 }
 
-#[derive(Drop)]
+#[derive(Clone, Copy)]
 pub enum Configured {
     Ok(Widths),
     InvalidConfiguration,

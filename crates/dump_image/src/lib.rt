@@ -8,7 +8,7 @@ use pa::PA;
 
 // What an image tells in front of its words: the fields, the arena's base, and how many words follow for L0 and for the arena; the words
 // start at an index, and behind the last of them is the end.
-#[derive(Drop)]
+#[derive(Clone, Copy)]
 pub struct Image {
     pub config: Config,
     pub base: PA,
@@ -19,7 +19,7 @@ pub struct Image {
 }
 
 // Document 01's faults 1 to 4.
-#[derive(Drop)]
+#[derive(Clone, Copy)]
 pub enum Fault {
     Version,
     Short,
@@ -27,7 +27,7 @@ pub enum Fault {
     Length,
 }
 
-#[derive(Drop)]
+#[derive(Clone, Copy)]
 pub enum Read {
     Bad(Fault),
     Whole(Image),
@@ -67,7 +67,7 @@ pub fn copy_words(s: &[u8], at: usize, out: &mut [u64])
 }
 
 // What a version byte says: how many bytes of fields stand behind the length, where the version is known.
-#[derive(Drop)]
+#[derive(Clone, Copy)]
 pub enum Head {
     Known(usize),
     Unknown,

@@ -93,7 +93,7 @@ pub fn put_numbered(out: &mut [u8], at: usize, what: &[u8], n: u64) -> usize
 }
 
 // Addresses from start to last that answer alike.
-#[derive(Drop)]
+#[derive(Clone, Copy)]
 pub struct Run {
     pub start: u64,
     pub last: u64,
@@ -101,7 +101,7 @@ pub struct Run {
 }
 
 // Where a GPI's name stands in the list of all names.
-#[derive(Drop)]
+#[derive(Clone, Copy)]
 struct Part {
     at: usize,
     len: usize,

@@ -13,7 +13,7 @@ use resolve::{Place, Refusal};
 use view::Held;
 
 // The answer at an address, and the last address of a stretch that answers so.
-#[derive(Drop)]
+#[derive(Clone, Copy)]
 struct Piece {
     answer: Looked,
     last: u64,

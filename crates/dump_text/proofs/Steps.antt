@@ -121,7 +121,7 @@ looked_small (Told g) = lit< tt
 looked_small (Not r) = let h = (refusal_number_lem r).1 in omega arith
 
 fault_small : (f : Fault) → fault_number f < 100
-fault_small f = elim f [ Version ↦ lit< tt | Short ↦ lit< tt | Counts ↦ lit< tt | Length ↦ lit< tt ]
+fault_small f = elim f as (λ k. fault_number k < 100) [ Version ↦ lit< tt | Short ↦ lit< tt | Counts ↦ lit< tt | Length ↦ lit< tt ]
 
 module _ (q : Lent) (k : ℕ) where
   shut-left : Left (shown_steps q Refused) k

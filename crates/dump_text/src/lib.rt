@@ -14,7 +14,7 @@ use pa::PA;
 
 // What a chunk is: how many bytes of the buffer were written, the place to go on from, and whether nothing is left.
 // The place 0 is the start of the text, and 1 + a the line of the address a.
-#[derive(Drop)]
+#[derive(Clone, Copy)]
 pub struct Chunk {
     pub written: usize,
     pub next: u64,
@@ -22,7 +22,7 @@ pub struct Chunk {
 }
 
 // Whether tables are shown, with their widths, or refused.
-#[derive(Drop)]
+#[derive(Clone, Copy)]
 pub enum Opening {
     Shown(Widths),
     Refused,

@@ -46,7 +46,7 @@ valid_at k h = agreed (get_or valid k false) (known_at k) (at (λ j. agree (get_
 -- its number finds it
 pub gpi-num : (g : Gpi) → gpi_at (num g) ≡ Known g
 gpi-num g =
-    elim g [
+    elim g as (λ k. gpi_at (num k) ≡ Known k) [
       | NoAccess ↦ refl
       | SystemAgent ↦ refl
       | NonSecureProtected ↦ refl
@@ -98,13 +98,13 @@ unnamed n k = go (gpi_at n) k
 -- ---- sizes
 
 pub size_num_lem : (s : Size) → size_at (size_num s) ≡ Is s
-size_num_lem s = elim s [ MB2 ↦ refl | MB32 ↦ refl | MB512 ↦ refl ]
+size_num_lem s = elim s as (λ k. size_at (size_num k) ≡ Is k) [ MB2 ↦ refl | MB32 ↦ refl | MB512 ↦ refl ]
 
 pub size_lt : (s : Size) → size_num s < 4
-size_lt s = elim s [ MB2 ↦ lit< tt | MB32 ↦ lit< tt | MB512 ↦ lit< tt ]
+size_lt s = elim s as (λ k. size_num k < 4) [ MB2 ↦ lit< tt | MB32 ↦ lit< tt | MB512 ↦ lit< tt ]
 
 pub size_pos : (s : Size) → 0 < size_num s
-size_pos s = elim s [ MB2 ↦ lit< tt | MB32 ↦ lit< tt | MB512 ↦ lit< tt ]
+size_pos s = elim s as (λ k. 0 < size_num k) [ MB2 ↦ lit< tt | MB32 ↦ lit< tt | MB512 ↦ lit< tt ]
 
 -- the next smaller size is one code below, and a sixteenth
 pub smaller_num : (s r : Size) → smaller_of s ≡ Is r → (size_num r + 1 ≡ size_num s) × (16 * bytes_of r ≡ bytes_of s)

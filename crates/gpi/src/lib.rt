@@ -5,7 +5,7 @@ ghost use Rattle.gpi.specs.Gpi.{num, gpi_at, known_at};
 ghost use Rattle.gpi.specs.Size.{size_num, size_at, bytes_of, smaller_of};
 
 // Which world may use a granule: the eleven granule protection information values.
-#[derive(Drop)]
+#[derive(Clone, Copy)]
 pub enum Gpi {
     NoAccess,
     SystemAgent,
@@ -21,14 +21,14 @@ pub enum Gpi {
 }
 
 // What a number is as a GPI.
-#[derive(Drop)]
+#[derive(Clone, Copy)]
 pub enum Nibble {
     Known(Gpi),
     Reserved,
 }
 
 // The range that a contiguous descriptor speaks for.
-#[derive(Drop)]
+#[derive(Clone, Copy)]
 pub enum Size {
     MB2,
     MB32,
@@ -36,7 +36,7 @@ pub enum Size {
 }
 
 // A size, where there is one.
-#[derive(Drop)]
+#[derive(Clone, Copy)]
 pub enum SizeCode {
     Is(Size),
     None,

@@ -18,7 +18,7 @@ use set_table::{Answer, SetAt};
 use stores::Tally;
 
 // What a lookup answers.
-#[derive(Drop)]
+#[derive(Clone, Copy)]
 pub enum Looked {
     Ok(Gpi),
     Refused(Refusal),
@@ -71,7 +71,7 @@ pub fn lookup(c: Config, l0: &[u64], arena: &[u64], base: PA, address: PA) -> Lo
 }
 
 // What a set answers: done, stopped by an invalid word that the fuse scan met, or refused with nothing changed.
-#[derive(Drop)]
+#[derive(Clone, Copy)]
 pub enum Changed {
     Done(Tally),
     Stopped(Tally),

@@ -6,14 +6,14 @@ use gpi::{Gpi, Nibble};
 use pa::PA;
 
 // What a word of the L0 table says. The Rust's `Level0DescriptorRef`.
-#[derive(Drop)]
+#[derive(Clone, Copy)]
 pub enum L0Entry {
     Block(Gpi),
     Table(PA),
     Invalid,
 }
 
-#[derive(Drop)]
+#[derive(Clone, Copy)]
 pub enum TableWord {
     Word(u64),
     Refused,

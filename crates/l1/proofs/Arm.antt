@@ -39,10 +39,10 @@ pub gpi-of_known : (g : ℕ) → known_at g ≡ true → (x : Gpi) × (g ≡ num
 gpi-of_known g k = named _ g k (λ x e. (x, e))
 
 pub level_num : (s : Size) → size_num s ≡ suc (level_of s)
-level_num s = elim s [ MB2 ↦ refl | MB32 ↦ refl | MB512 ↦ refl ]
+level_num s = elim s as (λ k. size_num k ≡ suc (level_of k)) [ MB2 ↦ refl | MB32 ↦ refl | MB512 ↦ refl ]
 
 pub level_lt : (s : Size) → level_of s < 3
-level_lt s = elim s [ MB2 ↦ lit< tt | MB32 ↦ lit< tt | MB512 ↦ lit< tt ]
+level_lt s = elim s as (λ k. level_of k < 3) [ MB2 ↦ lit< tt | MB32 ↦ lit< tt | MB512 ↦ lit< tt ]
 
 size_of-level : (l : ℕ) → l < 3 → (s : Size) × (size_num s ≡ suc l)
 size_of-level zero h = (MB2, refl)
@@ -176,7 +176,7 @@ arm-laws =
 -- the bytes of a size are those of its level
 pub level_bytes : (s : Size) → bytes (level_of s) ≡ bytes_of s
 unfolding span
-level_bytes s = elim s [ MB2 ↦ refl | MB32 ↦ refl | MB512 ↦ refl ]
+level_bytes s = elim s as (λ k. bytes (level_of k) ≡ bytes_of k) [ MB2 ↦ refl | MB32 ↦ refl | MB512 ↦ refl ]
 
 -- the contiguous word of a size, and the word of one GPI sixteen times
 pub contig_arm : (s : Size) (g : Gpi) → contig_word s g ≡ arm.contig (level_of s) (num g)

@@ -8,7 +8,7 @@ ghost use Rattle.l1.specs.L1.{flat as flat_at};
 use gpi::{Gpi, Nibble, Size, SizeCode};
 
 // What a word of an L1 table says. The Rust's `Level1DescriptorRef`.
-#[derive(Drop)]
+#[derive(Clone, Copy)]
 pub enum L1Entry {
     Contiguous(Gpi, Size),
     Granules,
@@ -16,14 +16,14 @@ pub enum L1Entry {
 }
 
 // What a granule of a word reads: a GPI, or nothing where the word is invalid.
-#[derive(Drop)]
+#[derive(Clone, Copy)]
 pub enum Reading {
     Known(Gpi),
     Invalid,
 }
 
 // A word against a GPI.
-#[derive(Drop)]
+#[derive(Clone, Copy)]
 pub enum Match {
     Same,
     Other,

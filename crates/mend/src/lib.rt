@@ -10,21 +10,21 @@ use pa::PA;
 use resolve::{Ask, Call, Place, Refusal, Site};
 
 // The L1 table that an address names, or why it names none.
-#[derive(Drop)]
+#[derive(Clone, Copy)]
 pub enum Named {
     At(Site),
     Refused(Refusal),
 }
 
 // What a mend answers: the stores made, or why it is refused.
-#[derive(Drop)]
+#[derive(Clone, Copy)]
 pub enum Mended {
     Ok(u64),
     Refused(Refusal),
 }
 
 // What the check answers: whether a mend that no limit stops would write nothing, or why it is refused.
-#[derive(Drop)]
+#[derive(Clone, Copy)]
 pub enum Checked {
     Yes,
     No,

@@ -15,28 +15,28 @@ ghost use Rattle.mend_table.specs.Normal.{is_normal};
 use gpi::{Gpi, Nibble, Size, SizeCode};
 
 // What the words of a range are to be: this word, or each its own granules.
-#[derive(Drop)]
+#[derive(Clone, Copy)]
 enum Want {
     Word(u64),
     Flat,
 }
 
 // What a scan asks of each word: that it is what is wanted; or that it reads as this word does, whose granules are these.
-#[derive(Drop)]
+#[derive(Clone, Copy)]
 enum Test {
     Is(Want),
     Alike(u64, u64),
 }
 
 // Of what GPI a range is: valid throughout and of this one, or not so.
-#[derive(Drop)]
+#[derive(Clone, Copy)]
 enum One {
     Gpi(Gpi),
     Mixed,
 }
 
 // What a range is to be: these words, or what its sixteen parts of this size are to be.
-#[derive(Drop)]
+#[derive(Clone, Copy)]
 enum Judged {
     Words(Want),
     Parts(Size),

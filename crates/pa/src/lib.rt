@@ -2,10 +2,10 @@
 ghost use Rattle.std.specs.Prelude.{◌≡◌};
 ghost use Rattle.pa.specs.Pa.{aligned_down, distance_of};
 
-#[derive(Drop)]
+#[derive(Clone, Copy)]
 pub struct PA(pub u64);
 
-#[derive(Drop)]
+#[derive(Clone, Copy)]
 pub enum Distance {
     Is(i64),
     Refused,

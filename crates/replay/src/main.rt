@@ -4,7 +4,7 @@
 mod parts;
 
 // What the records said so far.
-#[derive(Drop)]
+#[derive(Clone, Copy)]
 struct State {
     // the arrangement
     fields: u64,

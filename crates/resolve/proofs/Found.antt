@@ -102,7 +102,7 @@ module _ {q : Lent} {x : ℕ} {w : Widths} {s : Site} (f : Found q x w s) where
 
     -- it is there,
     pub lay_table : table_in (lay_in q s T) s ≡ T
-    lay_table = arena.table-laid s.start s.words q.arena f.sited.fits T len
+    lay_table = arena.table_laid s.start s.words q.arena f.sited.fits T len
 
     -- another may be laid over it,
     pub lay_again : (v : List ℕ) → lay_in (lay_in q s T) s v ≡ lay_in q s v

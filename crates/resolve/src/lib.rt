@@ -14,7 +14,7 @@ use l0::L0Entry;
 use pa::PA;
 
 // Why a call is refused: document 01's 1 to 9. The Rust's `Error` and `GranuleError`, and what is added to them.
-#[derive(Drop)]
+#[derive(Clone, Copy)]
 pub enum Refusal {
     InvalidConfiguration,
     GptNotInitialized,
@@ -45,7 +45,7 @@ pub fn refusal_number(r: Refusal) -> u64
 }
 
 // What a call asks besides an address: a set has its log's words and its GPI, as the number was read.
-#[derive(Drop)]
+#[derive(Clone, Copy)]
 pub enum Call {
     Plain,
     Set(usize, Nibble),
@@ -102,7 +102,7 @@ pub fn is_outside(base: PA, words: usize, a: PA, n: usize) -> bool
 }
 
 // What a call is lent, as far as the refusals go: the arena's words are counted and not read. The L0 words stand beside it.
-#[derive(Drop)]
+#[derive(Clone, Copy)]
 pub struct Ask {
     pub config: Config,
     pub words: usize,
@@ -112,7 +112,7 @@ pub struct Ask {
 }
 
 // The L1 table as a part of the arena, and the address's place in it.
-#[derive(Drop)]
+#[derive(Clone, Copy)]
 pub struct Site {
     // the arena's index of the table's first word
     pub start: usize,
@@ -126,7 +126,7 @@ pub struct Site {
     pub bytes: u64,
 }
 
-#[derive(Drop)]
+#[derive(Clone, Copy)]
 pub enum Place {
     Refused(Refusal),
     Block(Gpi),
@@ -151,7 +151,7 @@ fn site_at(q: Ask, w: Widths, a: PA) -> Site
 }
 
 // What a call meets before its L0 word is read: the widths to read it by, or the first refusal.
-#[derive(Drop)]
+#[derive(Clone, Copy)]
 enum Admitted {
     Ok(Widths),
     Refused(Refusal),

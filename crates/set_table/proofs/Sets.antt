@@ -124,4 +124,4 @@ module _ (w : ℕ) (h : Gpi) (s : Size) (e : l1_of w ≡ Contiguous h s) where
 
 pub bytes-are : (s : Size) → bytes (level_of s) ≡ bytes_of s
 unfolding span
-bytes-are s = elim s [ MB2 ↦ refl | MB32 ↦ refl | MB512 ↦ refl ]
+bytes-are s = elim s as (λ k. bytes (level_of k) ≡ bytes_of k) [ MB2 ↦ refl | MB32 ↦ refl | MB512 ↦ refl ]

@@ -20,7 +20,7 @@ use theory::{Fused, Scan};
 
 // What is to be set in a table: where the table stands in its arena, the word and the granule, the words of 2 MB, the GPI, the address as
 // given, and a granule's bytes.
-#[derive(Drop)]
+#[derive(Clone, Copy)]
 pub struct SetAt {
     pub offset: usize,
     pub index: usize,
@@ -33,7 +33,7 @@ pub struct SetAt {
 
 // What a set of a table answers: done, stopped by an invalid word that the fuse scan met, or nothing changed, since the word at the index
 // is invalid.
-#[derive(Drop)]
+#[derive(Clone, Copy)]
 pub enum Answer {
     Done(Tally),
     Stopped(Tally),
@@ -41,7 +41,7 @@ pub enum Answer {
 }
 
 // How a range around an index is cut at the part that holds it: the fill before, and the fill after.
-#[derive(Drop)]
+#[derive(Clone, Copy)]
 struct Cut {
     low: usize,
     before: usize,

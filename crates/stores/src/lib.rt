@@ -9,7 +9,7 @@ ghost use Rattle.stores.specs.Done.{Done, Room};
 use pa::PA;
 
 // Records and stores so far.
-#[derive(Drop)]
+#[derive(Clone, Copy)]
 pub struct Tally {
     pub records: usize,
     pub stores: usize,

@@ -2,7 +2,7 @@
 // that both the definitions and the code above speak of.
 
 // A scan of some words for one GPI: all have it; the first that hasn't is of another; or is invalid, with its index in the table.
-#[derive(Drop)]
+#[derive(Clone, Copy)]
 pub enum Scan {
     All,
     Differs,
@@ -11,7 +11,7 @@ pub enum Scan {
 
 // What the scans of a set come to: no range to fuse, the level of the largest that matched, or refusal 10, with the index of the invalid
 // word.
-#[derive(Drop)]
+#[derive(Clone, Copy)]
 pub enum Fused {
     Nowhere,
     Level(usize),

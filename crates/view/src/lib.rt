@@ -7,21 +7,21 @@ ghost use Rattle.view.specs.Reads.{is_width, spot_of, seen_at, held_by, held_at}
 use gpi::Gpi;
 use l1::Reading;
 
-#[derive(Drop)]
+#[derive(Clone, Copy)]
 pub struct View<'a> {
     pub words: &'a [u64],
     pub width: u64,
 }
 
 // The word that holds an address.
-#[derive(Drop)]
+#[derive(Clone, Copy)]
 pub enum Seen {
     Word(u64),
     Outside,
 }
 
 // The GPI that an address reads; none where its word is invalid.
-#[derive(Drop)]
+#[derive(Clone, Copy)]
 pub enum Held {
     Is(Gpi),
     Invalid,
@@ -29,7 +29,7 @@ pub enum Held {
 }
 
 // The word and the granule of an address.
-#[derive(Drop)]
+#[derive(Clone, Copy)]
 enum Spot {
     At(usize, u64),
     Outside,
