@@ -1,0 +1,15 @@
+-- `dump_image::number` meets its contract. The loop keeps that v is the number of the first k bytes.
+use mathlib.Core.Path.{◌≡◌, ap, ◌∙◌}
+use Prim.Native.Nat.{◌≤◌, ◌<◌, ◌-◌, ◌+◌, ◌^◌}
+use native.Mathlib.Omega.{arith}
+use borrow.Author.Rules.{rules}
+use lib.Dec.{lit<}
+use Rattle.dump_image.specs.Image.{big_endian}
+use Rattle.dump_image.proofs.Numbers.{room, grown, number_more, number-none}
+use Rattle.dump_image.proofs.number.Given as goal
+
+abbrev pub invariant-loop-k : goal.invariant-loop-k
+invariant-loop-k l = (l.k ≤ l.n) × (l.v ≡ big_endian l.s l.at l.k) × (l.v < 256 ^ l.k)
+
+abbrev pub decreases-loop-k : goal.decreases-loop-k
+decreases-loop-k l = l.n - l.k

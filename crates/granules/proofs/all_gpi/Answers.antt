@@ -1,0 +1,28 @@
+-- `granules::all_gpi` meets its contract. The invariant: what is left says the same as the whole.
+use mathlib.Core.Path.{◌≡◌, sym, ◌∙◌}
+use Prim.Native.Nat.{◌%◌, ◌≤◌}
+use native.Mathlib.Omega.{arith}
+use borrow.Author.Rules.{rules}
+use borrow.Author.Tests.{eq-eqb, ne_eqb}
+use lib.Dec.{eqb}
+use Rattle.granules.specs.Nibs.{nibs, all}
+use Rattle.granules.proofs.Digits.{walk_end, walk_miss, walk_hit}
+use Rattle.granules.proofs.all_gpi.Goals as goal
+
+pub loop-n-preserved : goal.loop-n-preserved
+loop-n-preserved c =
+    let l = c.loop-n in
+    let x = c.number-x.result in
+    (omega arith, l.invariant.1 ∙ walk_hit (eqb x) l.n l.v c.loop-n-test.true (eq-eqb x (l.v % 16) c.if-x-v.true))
+
+pub returns-else-x-v : goal.returns-else-x-v
+returns-else-x-v c =
+    let l = c.loop-n in
+    let x = c.number-x.result in
+    rw (← c.number-x.ensures)
+    (sym (l.invariant.1 ∙ walk_miss (eqb x) l.n l.v c.loop-n-test.true (ne_eqb x (l.v % 16) c.if-x-v.false)))
+
+pub returns : goal.returns
+returns c =
+    let l = c.loop-n in
+    rw (← c.number-x.ensures) (sym (l.invariant.1 ∙ walk_end _ l.n l.v c.loop-n-test.false))

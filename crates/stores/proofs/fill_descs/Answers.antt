@@ -1,0 +1,28 @@
+-- `stores::fill_descs` meets its contract. The loop keeps that exactly the first k words are stored.
+use mathlib.Core.Path.{◌≡◌, refl}
+use Prim.Native.Nat.{◌≤◌, ◌-◌}
+use native.Mathlib.Nat.{pos_of_ne-zero}
+use native.Mathlib.Numerals.{add-one}
+use native.Mathlib.Omega.{arith}
+use lib.ListN.{length, length-set}
+use Rattle.theory.specs.Stores.{apply, fill}
+use Rattle.theory.proofs.Stores.{apply-fill_suc}
+use Rattle.stores.proofs.Events.{fill_done, fill_none}
+use Rattle.stores.proofs.fill_descs.Goals as goal
+
+pub returns-then-count-eq0 : goal.returns-then-count-eq0
+returns-then-count-eq0 c = fill_none _ _ _ _ _ _ _ c.if-count-eq0.true
+
+pub loop-k-init : goal.loop-k-init
+unfolding apply fill
+loop-k-init c = (omega arith, refl, refl)
+
+pub loop-k-preserved : goal.loop-k-preserved
+loop-k-preserved c =
+    let l = c.loop-k in
+    (omega arith, rw (add-one, apply-fill_suc, ← l.invariant.1), simp length-set l.invariant.2)
+
+pub returns : goal.returns
+returns c =
+    fill_done _ _ _ _ _ _ _ _ _ _ (omega arith) (pos_of_ne-zero c.if-count-eq0.false) c.loop-k.k (omega arith) (omega arith)
+    c.loop-k.invariant.1 c.log_record.ensures refl refl
