@@ -22,8 +22,3 @@ pub loop-k-preserved : goal.loop-k-preserved
 loop-k-preserved c =
     let b : c.wide.result < 256 = omega (arith, c.type_inv.s (c.args.at + c.loop-k.k)) in
     (omega arith, number_more _ _ _ c.loop-k.invariant.1 c.wide.ensures, grown _ c.loop-k.invariant.2 b)
-
-pub returns : goal.returns
-returns c =
-    let e : c.loop-k.k ≡ c.args.n = omega arith in
-    (c.loop-k.invariant.1 ∙ ap (big_endian c.args.s.now c.args.at) e, rw (← e) c.loop-k.invariant.2)
