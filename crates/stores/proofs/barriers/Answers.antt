@@ -7,7 +7,6 @@ use Rattle.theory.specs.Stores.{apply}
 use Rattle.theory.specs.Events.{barrier, dsb-oshst, tlbi, dsb-osh}
 use Rattle.stores.specs.declared.Tally.{Tally}
 use Rattle.stores.proofs.Events.{one, after}
-use borrow.Author.Rules.{rules}
 use Rattle.stores.proofs.barriers.Goals as goal
 
 -- one record more
