@@ -33,6 +33,7 @@ returns-in_default t c =
 
 -- ---- more
 
+-- what is known once the next smaller size and its words are
 parted : {T L : List ℕ} {a : Tally} {n : ℕ} (q : SetAt) (s m : Size) → Placed T q.index q.unit
     → Room T L q.offset a (1 + 2 * level_of s) (span q.unit (level_of s)) → Is m ≡ smaller_of s → n ≡ span q.unit (level_of m)
     → Parted T L q a s m n
