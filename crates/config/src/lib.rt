@@ -117,6 +117,7 @@ pub fn l0gptsz_width(n: u8) -> Width
 }
 
 // The widths, or why there are none: field values, then GPC, then the widths against each other.
+#[tactic(auto, unfolding(crate::specs::Fields::configured_of))]
 pub fn configure(c: Config) -> Configured
     ensures { result ≡ configured_of c }
 {

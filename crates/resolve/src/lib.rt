@@ -159,6 +159,7 @@ enum Admitted {
 
 // The refusals 1 to 6 in their order. The tests are asked first and judged then: one that is called behind several others counts as rare,
 // and the compiler would leave its call standing in a lookup.
+#[tactic(auto, using(std::proofs::lemmas::Bool::Decides::nat_tests), unfolding(crate::specs::Place::place_of, crate::specs::Place::located))]
 fn admit(d: Configured, l0: &[u64], q: Ask) -> Admitted
     requires { d ≡ configured_of q.config }
     ensures { Told q l0.now result }
