@@ -107,9 +107,9 @@ module _ {q : Lent} {log : List ℕ} {x g : ℕ} {w : Widths} {s : Site} {o : Ou
       ∙ sym h.made.left
 
   -- It is one of the log's stores.
-  pub granule_store_lem : granule_store_after o < changed_stores o.answer
+  pub granule_store_made : granule_store_after o < changed_stores o.answer
   unfolding lead
-  granule_store_lem =
+  granule_store_made =
       omega (
         arith,
         lead_is,

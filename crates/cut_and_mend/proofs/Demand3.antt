@@ -21,7 +21,7 @@ use Rattle.gpt.specs.Set.{set_of, changed_number}
 use Rattle.cut_and_mend.specs.Demand3.{Answers0or10, Tables, Ready, Demand3}
 use Rattle.cut_and_mend.proofs.Agreement.{agrees_01}
 use Rattle.cut_and_mend.proofs.Happened.{happened}
-use Rattle.cut_and_mend.proofs.Cut.{all_made, granule_store_lem, outside, old, new, mended, checked, the_one}
+use Rattle.cut_and_mend.proofs.Cut.{all_made, granule_store_made, outside, old, new, mended, checked, the_one}
 
 -- The theorem: only the table of the target must share no word with another entry's, and only the entry at the target must agree.
 pub promise : (q : Lent) (log : List ℕ) (x g : ℕ) → Answers0or10 (changed_number (set_of q log x g).answer) → Ready q x
@@ -35,7 +35,7 @@ promise q log x g a ready =
       site = p.1;
       place = own_place h.found;
       all_made = all_made h;
-      granule_store_lem = granule_store_lem h;
+      granule_store_made = granule_store_made h;
       outside = outside h ready;
       old = λ k y e. old h ready k y;
       new_number = λ k y e m. ap looked_number (new h ready k y e m);

@@ -113,7 +113,7 @@ pub record Demand3 (q : Lent) (x g : ℕ) (o : Outcome) : Type 0 where
   pub place : placed q x ≡ Table site
   -- the log is no tale: with all its stores made the arena is the one that the set leaves, and the granule store is one of them
   pub all_made : (k : ℕ) → changed_stores o.answer ≤ k → cut_after k q o ≡ o.left
-  pub granule_store_lem : granule_store_after o < changed_stores o.answer
+  pub granule_store_made : granule_store_after o < changed_stores o.answer
   -- "Every address outside the target granule looks up as before": every address, and the whole answer, refusals included
   pub outside : (k y : ℕ) → y / granule_bytes widths ≢ x / granule_bytes widths → lookup_of (cut_after k q o) y ≡ lookup_of q y
   -- "the target answers old before the granule store,"

@@ -1,5 +1,7 @@
 // `gpi`: GPIs and the sizes of contiguous descriptors, their numbers and back, and the table of nibbles. From table.rs: `GPIAccessType`,
 // `ContigSize`.
+#![tactic(auto)]
+
 ghost use Rattle.std.specs.Prelude.{◌≡◌, true};
 ghost use Rattle.gpi.specs.Gpi.{num, gpi_at, known_at};
 ghost use Rattle.gpi.specs.Size.{size_num, size_at, bytes_of, smaller_of};

@@ -40,7 +40,7 @@ use Rattle.mend.proofs.Lookups.{mend-looks}
 use Rattle.cut_and_mend.specs.Demand3.{Ready, cut_after, granule_store_after}
 use Rattle.cut_and_mend.proofs.Looks.{table_of}
 use Rattle.cut_and_mend.proofs.Happened.{Happened, happened}
-use Rattle.cut_and_mend.proofs.Cut.{stored, length-stored, cut-is, all_made, granule_store_lem, outside, old, new}
+use Rattle.cut_and_mend.proofs.Cut.{stored, length-stored, cut-is, all_made, granule_store_made, outside, old, new}
 use Rattle.history.specs.History.{Request, Act, sets, cuts, mends, change, act_marks, made}
 use Rattle.history.specs.History.{State, start, act, acts, Aimed, May, Allowed, Sound, Kept}
 use Rattle.history.proofs.Tables.{sound_ready, lay_sound}
@@ -114,7 +114,7 @@ module _ (w : Widths) (S : State) (K : Kept w S) where
             sound = set-sound;
             looks = λ y.
                 ap (λ (p : Lent). lookup_of p y) (sym (all_made h (changed_stores o.answer) (omega arith)))
-                ∙ made-looks (changed_stores o.answer) (granule_store_lem h) y;
+                ∙ made-looks (changed_stores o.answer) (granule_store_made h) y;
           }
 
     -- the site, by the state's widths

@@ -5,7 +5,7 @@ use native.Mathlib.Nat.{div-mul-le_self, le-div_iff_mul-le, mul-le-mul_right, mu
 use native.Mathlib.Decide.{dec_lt}
 use native.Mathlib.Omega.{arith}
 use borrow.Author.Tests.{lt-ltb}
-use lib.IntN.{ℤ, pos, negsuc, ◌+ℤ◌, ◌-ℤ◌, -ℤ-+ℤ_cancel}
+use lib.IntN.{pos, negsuc, ◌+ℤ◌, -ℤ-+ℤ_cancel}
 use Rattle.pa.specs.Pa.{aligned_down, distance_of, number, distance}
 
 -- it is not above the address, and no multiple between the two is larger

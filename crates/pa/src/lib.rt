@@ -1,4 +1,6 @@
 // `pa`: a physical address of a type of its own, so that addresses and word indices can't be mixed. From gpt.rs: `PA`.
+#![tactic(auto)]
+
 ghost use Rattle.std.specs.Prelude.{◌≡◌};
 ghost use Rattle.pa.specs.Pa.{aligned_down, distance_of};
 

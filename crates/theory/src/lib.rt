@@ -1,5 +1,6 @@
 // Normal tables, stores, cuts and mends as mathematics, over an abstract word format: see specs/ and proofs/. The code is the two enums
 // that both the definitions and the code above speak of.
+#![tactic(auto)]
 
 // A scan of some words for one GPI: all have it; the first that hasn't is of another; or is invalid, with its index in the table.
 #[derive(Clone, Copy)]

@@ -1,2 +1,1 @@
-mod Readers
 pub mod Spots

@@ -1,5 +1,5 @@
-// `view`: a read-only view of an L1 table, the caller's words and the granule width, with thin readers over covered functions. In the place
-// of table.rs's `GranuleDescriptorRef`. An address is told by its distance in bytes from the table's first.
+// `view`: a read-only view of an L1 table, the caller's words and the granule width, with thin readers over functions of the words. In the
+// place of table.rs's `GranuleDescriptorRef`. An address is told by its distance in bytes from the table's first.
 ghost use Rattle.std.specs.Prelude.{◌≡◌, ◌<◌};
 ghost use Rattle.l1.specs.L1.{read_at};
 ghost use Rattle.view.specs.Reads.{is_width, spot_of, seen_at, held_by, held_at};
@@ -83,11 +83,11 @@ fn held_by(w: u64, k: u64) -> Held
 }
 
 // The GPI of an address.
-fn gpi_at(t: &[u64], width: u64, at: u64) -> Held
-    ensures { result ≡ held_at t.now width at }
+fn gpi_at(words: &[u64], width: u64, at: u64) -> Held
+    ensures { result ≡ held_at words.now width at }
 {
-    match spot_at(t.len(), width, at) {
-        Spot::At(i, k) => held_by(t[i], k),
+    match spot_at(words.len(), width, at) {
+        Spot::At(i, k) => held_by(words[i], k),
         Spot::Outside => Held::Outside,
     }
 }
@@ -110,7 +110,7 @@ pub fn gpi_of<'a>(v: View<'a>, at: u64) -> Held
     gpi_at(v.words, v.width, at)
 }
 
-// From a slice to a view and through it: its parameters are plain, so whoever calls it needs no walk.
+// From a slice to a view and through it, for whoever has plain parameters.
 pub fn gpi_through(t: &[u64], width: u64, at: u64) -> Held
     ensures { result ≡ held_at t.now width at }
 {

@@ -11,12 +11,6 @@ use Rattle.dump_image.proofs.copy_words.Goals as goal
 pub loop-k-init : goal.loop-k-init
 loop-k-init c = (omega arith, words_none _ _ _, refl)
 
-pub number-requires : goal.number-requires
-number-requires c = (omega arith, omega arith)
-
 pub loop-k-preserved : goal.loop-k-preserved
 loop-k-preserved c =
     (omega arith, words_more _ _ _ _ _ (omega arith) c.loop-k.invariant.1 c.number.ensures.0, simp length-set c.loop-k.invariant.2)
-
-pub returns : goal.returns
-returns c = words_all _ _ _ _ _ (omega arith) c.loop-k.invariant.0 c.loop-k.invariant.1

@@ -11,10 +11,6 @@ pub returns-then-s-eq0 : goal.returns-then-s-eq0
 unfolding front_of
 returns-then-s-eq0 c = rw (eq-eqb _ _ c.if-s-eq0.true)
 
-pub headed-requires : goal.headed-requires
-headed-requires c =
-    fields-few (get_or c.args.s.now 0 0) _ (sym c.head_of.ensures ∙ c.in-Known.is)
-
 pub returns-in-Known : goal.returns-in-Known
 unfolding front_of
 returns-in-Known c =

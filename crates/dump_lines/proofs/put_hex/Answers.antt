@@ -8,9 +8,6 @@ use Rattle.dump_lines.specs.Digits.{hex}
 use Rattle.dump_lines.proofs.Bytes.{hex-more, hex-end}
 use Rattle.dump_lines.proofs.put_hex.Goals as goal
 
-pub loop-left-init : goal.loop-left-init
-loop-left-init c = (omega arith, refl, refl, refl)
-
 pub loop-left-preserved : goal.loop-left-preserved
 loop-left-preserved c =
     let l = c.loop-left in

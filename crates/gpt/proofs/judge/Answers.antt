@@ -1,7 +1,6 @@
 -- `gpt::judge` meets its contract.
 use mathlib.Core.Path.{sym, ap, ◌∙◌}
 use Rattle.gpt.specs.Lookup.{judged}
-use borrow.Author.Rules.{rules}
 use Rattle.gpt.proofs.judge.Goals as goal
 
 pub returns-in-Known : goal.returns-in-Known

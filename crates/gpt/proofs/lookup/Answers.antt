@@ -2,7 +2,6 @@
 use mathlib.Core.Path.{sym, ◌∙◌}
 use native.Mathlib.Nat.{add-sub_cancel_left}
 use native.Mathlib.Omega.{arith}
-use borrow.Author.Rules.{rules}
 use lib.ListN.{length}
 use Rattle.resolve.specs.declared.Call.TheVariants.{Plain}
 use Rattle.resolve.specs.Sited.{Sited}
@@ -11,23 +10,27 @@ use Rattle.resolve.specs.Lent.{lent}
 use Rattle.resolve.proofs.Found.{found}
 use Rattle.gpt.specs.Lookup.{looked_at, lookup_of}
 use Rattle.gpt.proofs.lookup.Goals as goal
+use Rattle.gpt.proofs.lookup.Goals.{In-Table}
 
 -- what the place in a table promises
-at-site : (c : tie.After-s) → Sited (length c.before.before.before.before.before.args.arena.now) c.s.given.0.0
+at-site : (c : In-Table) → Sited (length c.args.arena.now) c.in-Table.s
 at-site c =
-    let a = c.before.before.before.before.before.args in
-    (found (lent a.c a.l0.now a.arena.now a.base.0) Plain a.address.0 _
-    (sym c.before.before.find.ensures ∙ c.s.given.1)).1.sited
+    (found (lent c.args.c c.args.l0.now c.args.arena.now c.args.base.0) Plain c.args.address.0 _
+    (sym c.find.ensures ∙ c.in-Table.is)).1.sited
 
 pub overflow_add-end : goal.overflow_add-end
-overflow_add-end c = let s = at-site TODO{place c.before.before = After-s} in omega (arith, s.fits, s.arena)
+overflow_add-end c = let s = at-site (goal.at.overflow_add-end c).In-Table in omega (arith, s.fits, s.arena)
 
 pub offset_bounds-arena-o : goal.offset_bounds-arena-o
-offset_bounds-arena-o c = let s = at-site TODO{place c.before.before = After-s} in omega (arith, s.fits, s.arena)
+offset_bounds-arena-o c = let s = at-site (goal.at.offset_bounds-arena-o c).In-Table in omega (arith, s.fits, s.arena)
+
+pub slice_bounds-read_table-end : goal.slice_bounds-read_table-end
+slice_bounds-read_table-end c = (at-site (goal.at.slice_bounds-read_table-end c).In-Table).fits
 
 pub read_table-requires : goal.read_table-requires
 read_table-requires c =
-    let s = at-site TODO{place c.before.before.before = After-s} in rw (add-sub_cancel_left _ _, length-table _ _ _ s.fits) (s.index, s.granule)
+    let s = at-site (goal.at.read_table-requires c).In-Table in
+    rw (add-sub_cancel_left _ _, length-table _ _ _ s.fits) record { i_in_bounds = s.index; k_bound = s.granule }
 
 pub returns-in-Refused : goal.returns-in-Refused
 unfolding lookup_of looked_at

@@ -1,7 +1,6 @@
 -- `gpt::set_site` meets its contract: the set of the table, made in the part of the arena that is lent.
 use native.Mathlib.Nat.{add-sub_cancel_left}
 use native.Mathlib.Omega.{arith}
-use borrow.Author.Rules.{rules}
 use Rattle.gpt.proofs.Sites.{placed, roomy, made}
 use Rattle.gpt.proofs.set_site.Goals as goal
 
@@ -13,10 +12,11 @@ offset_bounds-arena-o c = let h = c.requires.sited in omega (arith, h.fits, h.ar
 
 pub set_table-a-requires : goal.set_table-a-requires
 set_table-a-requires c =
-    rw (add-sub_cancel_left c.args.s.start c.args.s.words) (
-      placed c.args.arena.now c.args.log.now c.args.address.0 c.args.g c.requires.sited,
-      (c.requires.sited.granule, roomy c.args.arena.now c.args.log.now c.args.address.0 c.args.g c.requires.sited c.requires.in_bounds),
-    )
+    rw (add-sub_cancel_left c.args.s.start c.args.s.words) record {
+      placed = placed c.args.arena.now c.args.log.now c.args.address.0 c.args.g c.requires.sited;
+      granule_bound = c.requires.sited.granule;
+      room = roomy c.args.arena.now c.args.log.now c.args.address.0 c.args.g c.requires.sited c.requires.in_bounds;
+    }
 
 pub returns : goal.returns
 returns c =

@@ -1,7 +1,6 @@
 -- Crate mend_table: `alike` meets its contract.
 use mathlib.Core.Path.{refl}
 use borrow.Author.Tests.{eq-eqb, ne_eqb}
-use borrow.Author.Rules.{rules}
 use Rattle.mend_table.proofs.alike.Goals as goal
 
 pub returns-then-v-w : goal.returns-then-v-w

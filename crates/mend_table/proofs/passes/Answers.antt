@@ -1,6 +1,5 @@
 -- Crate mend_table: `passes` meets its contract.
 use mathlib.Core.Path.{refl}
-use borrow.Author.Rules.{rules}
 use Rattle.mend_table.proofs.passes.Goals as goal
 
 pub returns-in-Is : goal.returns-in-Is

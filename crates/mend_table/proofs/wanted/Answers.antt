@@ -1,5 +1,4 @@
 -- Crate mend_table: `wanted` meets its contract.
-use borrow.Author.Rules.{rules}
 use Rattle.mend_table.proofs.wanted.Goals as goal
 
 pub returns-in-Flat : goal.returns-in-Flat

@@ -1,24 +1,13 @@
--- `view::gpi_at` meets its contract.
-use mathlib.Core.Path.{sym, ◌∙◌}
+-- `view::gpi_at` meets its contract: the word lies in the table, and the granule in the word.
 use native.Mathlib.Omega.{arith}
 use Rattle.view.proofs.Spots.{in_table}
-use borrow.Author.Rules.{rules}
 use Rattle.view.proofs.gpi_at.Goals as goal
 
-pub offset_bounds-t-i : goal.offset_bounds-t-i
-offset_bounds-t-i c = let h = in_table _ _ _ c.spot_at.ensures c.in-At.is in omega arith
+pub offset_bounds-words-i : goal.offset_bounds-words-i
+offset_bounds-words-i c = let h = in_table _ _ _ c.spot_at.ensures c.in-At.is in omega arith
 
-pub bounds-t-i : goal.bounds-t-i
-bounds-t-i c =
-    (in_table _ _ _ c.spot_at.ensures c.in-At.is).0
+pub bounds-words-i : goal.bounds-words-i
+bounds-words-i c = (in_table _ _ _ c.spot_at.ensures c.in-At.is).0
 
 pub held_by-requires : goal.held_by-requires
-held_by-requires c =
-    (in_table _ _ _ c.spot_at.ensures c.in-At.is).1
-
-pub returns-in-At : goal.returns-in-At
-returns-in-At c =
-    rw (sym c.spot_at.ensures ∙ c.in-At.is) c.held_by.ensures
-
-pub returns-in-Outside : goal.returns-in-Outside
-returns-in-Outside c = rw (sym c.spot_at.ensures ∙ c.in-Outside.is)
+held_by-requires c = (in_table _ _ _ c.spot_at.ensures c.in-At.is).1
