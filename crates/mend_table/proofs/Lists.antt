@@ -2,7 +2,7 @@
 use mathlib.Core.Path.{◌≡◌, refl, sym, ◌∙◌}
 use mathlib.Core.Bool.{Bool, true, false, ◌&&◌}
 use Prim.Native.Nat.{ℕ, zero, suc, ◌+◌, ◌-◌, ◌<◌, ◌≤◌}
-use native.Mathlib.Nat.{add-suc, suc-add, add-zero, zero-add}
+use native.Mathlib.Nat.{add-suc, suc-add, add-zero, zero-add, sub-zero}
 use native.Mathlib.Numerals.{add-one}
 use native.Mathlib.Omega.{arith}
 use lib.Dec.{eqb}
@@ -11,6 +11,9 @@ use Rattle.theory.specs.Normal.{every}
 -- ---- a scan: the rest of the stretch says the same as the whole
 
 module _ (p : ℕ → Bool) (a n : ℕ) where
+  pub scan-start : every p a n ≡ every p (a + 0) (n - 0)
+  scan-start = rw (add-zero a, sub-zero n) refl
+
   module _ (i : ℕ) (e : every p a n ≡ every p (a + i) (n - i)) where
     more : i < n → every p (a + i) (n - i) ≡ (p (a + i) && every p (a + (i + 1)) (n - (i + 1)))
     unfolding every

@@ -46,6 +46,9 @@ module _ (F : Format) {u l k p : ℕ} {t : List ℕ} {c : ℕ} where
             (rw (add-mul p i (span u l)) at g.goes));
       }
 
+  pub all_made : {i n : ℕ} {t₂ : List ℕ} {c₂ : ℕ} → i ≤ n → n ≤ i → Mends F u l k p i t c t₂ c₂ → Mends F u l k p n t c t₂ c₂
+  all_made {i} {n} b b' g = let e : i ≡ n = omega arith in rw e at g
+
   pub full : {n : ℕ} → k ≤ c → Mends F u l k p n t c t c
   full {n} f = record { goes = sym (mend_walk-full k (normal_up_to F u (at t) (suc l)) (p * span u l) (n * span u l) (walked t c) f) }
 
