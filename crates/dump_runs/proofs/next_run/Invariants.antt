@@ -1,14 +1,9 @@
 -- `dump_runs::next_run` meets its contract. The loop keeps that the runs from a on are those of a run that has come to `last`.
-use mathlib.Core.Path.{◌≡◌, sym, ap, ◌∙◌}
-use native.Mathlib.Omega.{arith}
-use Prim.Native.Nat.{◌≤◌, ◌<◌, ◌-◌, ◌^◌}
-use lib.Pow.{pow_mono}
+use mathlib.Core.Path.{◌≡◌}
+use Prim.Native.Nat.{◌≤◌, ◌<◌, ◌-◌}
 use Rattle.resolve.specs.Lent.{lent}
 use Rattle.gpt.specs.Lookup.{lookup_of}
 use Rattle.dump_runs.specs.Runs.{code_of, runs, from, total}
-use Rattle.dump_runs.proofs.Near.{pps_most}
-use Rattle.dump_runs.proofs.Answers.{code-tells}
-use Rattle.dump_runs.proofs.Walk.{start-run, more_run, end_run, last_run}
 use Rattle.dump_runs.proofs.next_run.Given as goal
 
 abbrev pub invariant-loop-last : goal.invariant-loop-last

@@ -7,7 +7,6 @@ use Rattle.resolve.specs.Lent.{lent}
 use Rattle.dump_image.specs.Image.{words_from}
 use Rattle.dump_text.specs.Chunks.{table_steps}
 use Rattle.dump_text.proofs.Walk.{same_steps}
-use borrow.Author.Rules.{rules}
 use Rattle.dump_text.proofs.loaded_chunk.Goals as goal
 
 pub returns : goal.returns
