@@ -1,4 +1,6 @@
 // The calls that the port adds to the Rust's: mend of the L1 table that an address names, and the check of its normal form.
+#![tactic(auto)]
+
 ghost use Rattle.std.specs.Prelude.{◌≡◌};
 ghost use Rattle.resolve.specs.Lent.{lent};
 ghost use Rattle.resolve.specs.declared.Call.TheVariants.{Plain};

@@ -3,6 +3,8 @@
 // 2 MB part by its words. Mend makes the words so, the check asks whether they are. So a word is read a few times, whatever the table
 // holds: for each size, and where it is written; never a whole range again for each word. The ranges of a size are numbered from the
 // table's start: range p, of n words, begins at word p * n.
+#![tactic(auto)]
+
 ghost use Rattle.std.specs.Prelude.{◌≡◌, ◌+◌, ◌≤◌, ◌<◌, ◌*◌, length};
 ghost use Rattle.theory.specs.Normal.{at, every};
 ghost use Rattle.theory.specs.Inner.{walked, step, Goes};

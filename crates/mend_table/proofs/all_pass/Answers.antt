@@ -1,6 +1,5 @@
 -- Crate mend_table: `all_pass` meets its contract.
 use mathlib.Core.Path.{sym, ◌∙◌}
-use Prim.Native.Nat.{◌-◌}
 use native.Mathlib.Omega.{arith}
 use Rattle.mend_table.proofs.Lists.{scan-more, scan-stop, scan-end}
 use Rattle.mend_table.proofs.all_pass.Goals as goal
