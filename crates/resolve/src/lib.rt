@@ -1,5 +1,7 @@
 // Crate resolve. Where an address lies: the refusals 1 to 8 in their order, once for every call, and the tests behind them. From gpt.rs:
 // what `lookup` and `set` begin with, `Error` and `GranuleError`, and what is added to them.
+#![tactic(auto)]
+
 ghost use Rattle.std.specs.Prelude.{◌≡◌, false, ◌≤◌, ◌<◌, ◌^◌};
 ghost use Rattle.resolve.specs.Refusals.{refusal_number, arena_bad, log_short, gpi_bad, outside};
 ghost use Rattle.config.specs.Fields.{configured_of, Listed};

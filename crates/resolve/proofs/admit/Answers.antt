@@ -1,6 +1,6 @@
 -- `resolve::admit` meets its contract: the widths are the configuration's, and so listed, and where no test is met all is known that a call
 -- is let through with. The refusals need no answer: the search opens the definition, whose tests are the code's.
-use Rattle.std.proofs.Common.{arith, rules, sym, ◌∙◌}
+use Rattle.std.proofs.Common.{arith, sym, ◌∙◌}
 use Rattle.config.proofs.Bounds.{listed-widths}
 use Rattle.resolve.proofs.admit.Goals as goal
 

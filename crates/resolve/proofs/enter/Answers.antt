@@ -1,7 +1,6 @@
 -- `resolve::enter` meets its contract.
-use Rattle.std.proofs.Common.{sym, ap, ◌∙◌}
+use Rattle.std.proofs.Common.{sym, ◌∙◌}
 use Rattle.config.proofs.Geometry.{l1_most}
-use Rattle.resolve.specs.declared.Place.TheVariants.{Table}
 use Rattle.resolve.proofs.Arena.{inside}
 use Rattle.resolve.proofs.Chain.{table_address}
 use Rattle.resolve.proofs.enter.Goals as goal
