@@ -1,5 +1,5 @@
 -- The bytes of the dump's lines: document 01, "Dump image and text". Crate `dump_lines`.
-use Rattle.std.specs.Prelude.{List, [], ◌∷◌, ◌++◌, ℕ, ◌+◌}
+use Rattle.std.specs.Prelude.{List, [], ◌∷◌, ◌++◌, ℕ}
 use Prim.Native.Char.{code}
 use Prim.Native.String.{String, [] as end, ◌∷◌ as ◌then◌}
 use Rattle.gpi.specs.declared.Gpi.{Gpi}
