@@ -32,12 +32,3 @@ loop-v-preserved c =
 
 pub returns : goal.returns
 returns c = let l = c.loop-v in dec-last _ _ _ _ _ _ _ (omega arith) l.invariant.0 (omega arith) l.invariant.2
-
--- TODO inline answer, goal by its place among dec_len-requires, add-end, sub-i, loop-init, cast-out, add-out, slice_write-out, sub-i-2, loop-smaller, loop-preserved, cast-out-2, add-out-2, slice_write-out-2, returns
--- (λ c. c.before.loop.invariant.1)
-
--- TODO inline answer, goal by its place among dec_len-requires, add-end, sub-i, loop-init, cast-out, add-out, slice_write-out, sub-i-2, loop-smaller, loop-preserved, cast-out-2, add-out-2, slice_write-out-2, returns
--- (λ c. c.before.loop.invariant.1)
-
--- TODO inline answer, goal by its place among dec_len-requires, add-end, sub-i, loop-init, cast-out, add-out, slice_write-out, sub-i-2, loop-smaller, loop-preserved, cast-out-2, add-out-2, slice_write-out-2, returns
--- (λ c. simp length-set c.before.loop.invariant.3)
