@@ -13,18 +13,19 @@ use Rattle.gpi.specs.declared.Nibble.TheVariants.{Known, Reserved}
 use Rattle.gpi.specs.Gpi.{gpi_at}
 use Rattle.pa.specs.declared.PA.{PA}
 use Rattle.pa.specs.Pa.{pa}
+use Rattle.l0.specs.declared.L0Entry.{L0Entry}
 use Rattle.l0.specs.declared.L0Entry.TheVariants.{Table as TableWord, Invalid}
 use Rattle.l0.specs.L0.{l0_of, block_of}
 use Rattle.config.specs.declared.Widths.{Widths}
 use Rattle.config.specs.declared.Configured.TheVariants.{Ok}
 use Rattle.config.specs.Fields.{configured_of}
-use Rattle.config.specs.Index.{l0_entries}
+use Rattle.config.specs.Index.{l0_entries, l1_words}
 use Rattle.config.proofs.Bounds.{listed-widths}
 use Rattle.resolve.specs.declared.Ask.{Ask}
-use Rattle.resolve.specs.declared.Refusal.TheVariants.{FewL0Words, BadArena, ShortLog, InvalidRequest}
-use Rattle.resolve.specs.declared.Place.TheVariants.{Refused}
-use Rattle.resolve.specs.Refusals.{arena_bad, log_short, gpi_bad}
-use Rattle.resolve.specs.Place.{located, place_of}
+use Rattle.resolve.specs.declared.Refusal.TheVariants.{FewL0Words, BadArena, ShortLog, InvalidRequest, OutsideArena}
+use Rattle.resolve.specs.declared.Place.TheVariants.{Refused, Table}
+use Rattle.resolve.specs.Refusals.{arena_bad, log_short, gpi_bad, outside}
+use Rattle.resolve.specs.Place.{site_of, located, place_of}
 use Rattle.resolve.specs.Sited.{Passed}
 use Rattle.resolve.specs.Inner.{word_of, onward}
 
@@ -81,6 +82,15 @@ through q l w o p =
     let k : Asked q l w false false false false false =
     record { taken = o; few = le-ltb _ _ p.enough; arena = p.arena; log = p.long; address = lt-leb _ _ p.below; gpi = p.gpi } in
     order k
+
+-- ---- what it says of a table: the test of 8
+
+module _ (q : Ask) (w : Widths) (e : L0Entry) (a : PA) (h : e ≡ TableWord a) where
+  pub not_inside : outside q.base.0 q.words a.0 (l1_words w) ≡ true → Refused OutsideArena ≡ onward q w e
+  not_inside o = rw (h, o)
+
+  pub table : outside q.base.0 q.words a.0 (l1_words w) ≡ false → Table (site_of q w a.0) ≡ onward q w e
+  table o = rw (h, o)
 
 -- ---- what holds of an L0 table's address: bits 12 to 51
 

@@ -1,11 +1,8 @@
 -- `dump_image::copy_words` meets its contract. The loop keeps that the first k words are those of the image.
-use mathlib.Core.Path.{◌≡◌, refl}
-use mathlib.Core.List.{◌++◌}
-use Prim.Native.Nat.{◌≤◌, ◌-◌, ◌+◌}
+use mathlib.Core.Path.{refl}
 use native.Mathlib.Omega.{arith}
-use lib.ListN.{length, drop, length-set}
-use Rattle.dump_image.specs.Image.{words_from}
-use Rattle.dump_image.proofs.Numbers.{words_none, words_more, words_all}
+use lib.ListN.{length-set}
+use Rattle.dump_image.proofs.Numbers.{words_none, words_more}
 use Rattle.dump_image.proofs.copy_words.Goals as goal
 
 pub loop-k-init : goal.loop-k-init

@@ -1,10 +1,8 @@
 -- `dump_image::parse_front` meets its contract.
 use mathlib.Core.Path.{sym, ap, ◌∙◌}
-use borrow.Author.Rules.{rules}
 use borrow.Author.Tests.{eq-eqb, ne_eqb}
 use lib.ListN.{get_or}
 use Rattle.dump_image.specs.Image.{headed_of, front_of}
-use Rattle.dump_image.proofs.Fits.{fields-few}
 use Rattle.dump_image.proofs.parse_front.Goals as goal
 
 pub returns-then-s-eq0 : goal.returns-then-s-eq0

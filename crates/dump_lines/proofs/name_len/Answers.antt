@@ -7,7 +7,6 @@ use Rattle.dump_lines.specs.Digits.{dec}
 use Rattle.dump_lines.specs.Lines.{name}
 use native.Mathlib.Omega.{arith}
 use Rattle.dump_lines.proofs.Lengths.{length-name}
-use borrow.Author.Rules.{rules}
 use Rattle.dump_lines.proofs.name_len.Goals as goal
 
 pub returns-in-Refused : goal.returns-in-Refused

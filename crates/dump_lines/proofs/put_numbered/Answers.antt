@@ -1,7 +1,5 @@
 -- `dump_lines::put_numbered` meets its contract.
-use Rattle.dump_lines.specs.Digits.{dec}
-use Rattle.dump_lines.proofs.Bytes.{then_put, room_first, room_next}
-use borrow.Author.Rules.{rules}
+use Rattle.dump_lines.proofs.Bytes.{then_put}
 use Rattle.dump_lines.proofs.put_numbered.Goals as goal
 
 pub returns : goal.returns

@@ -2,11 +2,8 @@
 use mathlib.Core.Path.{sym, ◌∙◌}
 use Prim.Native.Nat.{◌-◌}
 use native.Mathlib.Omega.{arith}
-use Rattle.mend_table.proofs.Lists.{scan-start, scan-more, scan-stop, scan-end}
+use Rattle.mend_table.proofs.Lists.{scan-more, scan-stop, scan-end}
 use Rattle.mend_table.proofs.all_pass.Goals as goal
-
-pub loop-i-init : goal.loop-i-init
-loop-i-init c = (omega arith, scan-start _ _ _)
 
 pub loop-i-preserved : goal.loop-i-preserved
 loop-i-preserved c =

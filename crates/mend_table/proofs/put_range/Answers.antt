@@ -2,7 +2,7 @@
 use mathlib.Core.Path.{refl, ap, ◌∙◌}
 use native.Mathlib.Omega.{arith}
 use Rattle.theory.specs.Inner.{mend_walk}
-use Rattle.theory.proofs.MendWalk.{goes_on, goes_ahead, goes_end}
+use Rattle.theory.proofs.MendWalk.{goes_on, goes_ahead}
 use Rattle.l1.specs.Arm.{arm}
 use Rattle.mend_table.specs.Inner.{wanted_at}
 use Rattle.mend_table.proofs.put_range.Goals as goal
@@ -19,6 +19,3 @@ loop-i-preserved c =
       goes_on _ _ _ _ _ _ _ _ l.invariant.1 _
           (c.wanted-w.ensures ∙ ap (wanted_at arm a.want) (goes_ahead _ _ _ _ _ _ _ _ l.invariant.1 _ (omega arith))) _ _ c.put-d.ensures,
     )
-
-pub returns : goal.returns
-returns c = goes_end _ _ _ _ _ _ _ _ c.loop-i.invariant.1 _ c.loop-i.invariant.0 c.loop-i-test.false
