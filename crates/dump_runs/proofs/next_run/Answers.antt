@@ -1,13 +1,7 @@
 -- `dump_runs::next_run` meets its contract.
-use mathlib.Core.Path.{◌≡◌, sym, ap, ◌∙◌}
+use mathlib.Core.Path.{sym, ap, ◌∙◌}
 use native.Mathlib.Omega.{arith}
-use Prim.Native.Nat.{◌≤◌, ◌<◌, ◌-◌, ◌^◌}
-use lib.Pow.{pow_mono}
-use Rattle.config.specs.declared.Widths.{Widths}
-use Rattle.resolve.specs.Lent.{Lent, lent}
-use Rattle.dump_runs.specs.Inner.{Open}
-use Rattle.gpt.specs.Lookup.{lookup_of}
-use Rattle.dump_runs.specs.Runs.{code_of, runs, from, total}
+use Rattle.dump_runs.specs.Runs.{code_of}
 use Rattle.dump_runs.proofs.Near.{pps_most}
 use Rattle.dump_runs.proofs.Answers.{code-tells}
 use Rattle.dump_runs.proofs.Walk.{start-run, more_run, end_run, last_run}

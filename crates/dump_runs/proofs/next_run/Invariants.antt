@@ -1,5 +1,5 @@
 -- What `dump_runs::next_run`'s loop keeps: the runs from a on are those of a run that has come to `last`.
-use Prim.Native.Nat.{◌≤◌, ◌<◌, ◌-◌, ◌^◌}
+use Prim.Native.Nat.{◌≤◌, ◌<◌, ◌-◌}
 use mathlib.Core.Path.{◌≡◌}
 use Rattle.resolve.specs.Lent.{lent}
 use Rattle.gpt.specs.Lookup.{lookup_of}

@@ -2,8 +2,7 @@
 use mathlib.Core.Path.{◌≡◌, refl, sym, ◌∙◌}
 use native.Mathlib.Nat.{add-sub_cancel_left}
 use native.Mathlib.Omega.{arith}
-use Prim.Native.Nat.{ℕ, ◌≤◌, ◌<◌, ◌^◌}
-use borrow.Author.Rules.{rules}
+use Prim.Native.Nat.{ℕ}
 use lib.ListN.{length}
 use Rattle.resolve.specs.declared.Place.TheVariants.{Refused as Nowhere, Block, Table}
 use Rattle.resolve.specs.Sited.{Sited}
