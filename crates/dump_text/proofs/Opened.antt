@@ -15,7 +15,7 @@ use Rattle.resolve.specs.declared.Place.{Place}
 use Rattle.resolve.specs.declared.Place.TheVariants.{Refused as Nowhere}
 use Rattle.resolve.specs.declared.Refusal.TheVariants.{FewL0Words, BadArena}
 use Rattle.resolve.specs.Refusals.{arena_bad}
-use Rattle.resolve.specs.Place.{located, place_of, configured}
+use Rattle.resolve.specs.Place.{located, place_of}
 use Rattle.resolve.specs.Lent.{Lent}
 use Rattle.gpt.specs.Lookup.{looked_number, looked_at, lookup_of}
 use Rattle.dump_runs.specs.Inner.{Open}

@@ -1,4 +1,6 @@
 // The dump's text, made in chunks into a lent buffer. Added by the port. Crate `dump_text`.
+#![tactic(auto)]
+
 ghost use Rattle.std.specs.Prelude.{◌≡◌, ◌+◌, ◌*◌, ◌≤◌, ◌<◌, ◌^◌, length};
 ghost use Rattle.resolve.specs.Lent.{lent};
 ghost use Rattle.gpt.specs.Lookup.{looked_number, lookup_of};

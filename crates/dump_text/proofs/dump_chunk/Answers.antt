@@ -6,12 +6,9 @@ use mathlib.Core.List.{List}
 use lib.ListN.{length, take}
 use lib.Seq.{length-take-le}
 use Rattle.dump_lines.specs.Lines.{ascii, told}
-use Rattle.dump_image.specs.declared.Read.TheVariants.{Whole}
-use Rattle.dump_image.specs.Image.{read_of}
-use Rattle.dump_image.proofs.Fits.{Fits, ends, whole_fits}
+use Rattle.dump_image.proofs.Fits.{ends, whole_fits}
 use Rattle.dump_text.specs.Chunks.{one_step, image_steps, dump_steps}
 use Rattle.dump_text.proofs.Walk.{same_steps}
-use borrow.Author.Rules.{rules}
 use Rattle.dump_text.proofs.dump_chunk.Goals as goal
 
 -- the rooms are as long as the image's counts

@@ -4,7 +4,6 @@ use Rattle.dump_lines.specs.Lines.{header}
 use Rattle.dump_text.specs.Chunks.{step}
 use Rattle.dump_text.proofs.Walk.{chunk_full, chunk_more}
 use Rattle.dump_text.proofs.Steps.{header-here}
-use borrow.Author.Rules.{rules}
 use Rattle.dump_text.proofs.open_chunk.Goals as goal
 
 pub returns-then-out-header_len : goal.returns-then-out-header_len

@@ -1,22 +1,16 @@
 -- `dump_text::runs_chunk` meets its contract.
-use mathlib.Core.Path.{◌≡◌, refl, ◌∙◌}
-use mathlib.Core.List.{List}
+use mathlib.Core.Path.{◌≡◌, ◌∙◌}
 use native.Mathlib.Omega.{arith}
-use Prim.Native.Nat.{ℕ, ◌≤◌, ◌<◌, ◌-◌, ◌+◌, ◌^◌}
+use Prim.Native.Nat.{ℕ, ◌≤◌, ◌-◌, ◌+◌, ◌^◌}
 use lib.ListN.{length}
 use lib.Pow.{pow_mono}
-use Rattle.config.specs.declared.Widths.{Widths}
-use Rattle.resolve.specs.Lent.{Lent, lent}
 use Rattle.dump_lines.specs.declared.Run.{Run}
-use Rattle.dump_runs.specs.Inner.{Open}
-use Rattle.gpt.specs.Lookup.{lookup_of}
 use Rattle.dump_lines.specs.Lines.{line, name}
 use Rattle.dump_lines.proofs.Bytes.{put-length}
 use Rattle.dump_lines.proofs.Lengths.{length-line}
 use Rattle.dump_runs.specs.Runs.{total}
 use Rattle.dump_runs.proofs.Near.{pps_most}
-use Rattle.dump_text.specs.declared.Chunk.{Chunk}
-use Rattle.dump_text.specs.Chunks.{run_step, open_steps, Chunked}
+use Rattle.dump_text.specs.Chunks.{run_step}
 use Rattle.dump_text.proofs.Walk.{chunk_end, chunk_full, chunk_more}
 use Rattle.dump_text.proofs.Steps.{run-leads, runs-end}
 use Rattle.dump_text.proofs.runs_chunk.Goals as goal

@@ -1,7 +1,7 @@
 -- What `dump_text::runs_chunk`'s loop keeps: whatever chunks the rest chunks the whole.
 use mathlib.Core.Path.{◌≡◌}
 use mathlib.Core.List.{List}
-use Prim.Native.Nat.{ℕ, ◌≤◌, ◌<◌, ◌-◌, ◌+◌, ◌^◌}
+use Prim.Native.Nat.{ℕ, ◌≤◌, ◌<◌, ◌-◌, ◌+◌}
 use lib.ListN.{length}
 use Rattle.resolve.specs.Lent.{lent}
 use Rattle.gpt.specs.Lookup.{lookup_of}

@@ -1,11 +1,8 @@
 -- `dump_text::table_chunk` meets its contract.
-use mathlib.Core.Path.{◌≡◌, sym, ap, ◌∙◌}
-use Rattle.resolve.specs.Lent.{lent}
+use mathlib.Core.Path.{sym, ap, ◌∙◌}
 use Rattle.gpt.specs.Lookup.{looked_number}
-use Rattle.dump_text.specs.Text.{first_number}
 use Rattle.dump_text.proofs.Walk.{same_steps}
 use Rattle.dump_text.proofs.Opened.{opened, shown, shown_steps_lem, refused-steps}
-use borrow.Author.Rules.{rules}
 use Rattle.dump_text.proofs.table_chunk.Goals as goal
 
 pub open_chunk-requires : goal.open_chunk-requires

@@ -5,7 +5,6 @@ use Rattle.dump_lines.specs.Lines.{told}
 use Rattle.dump_text.specs.Chunks.{step, one_step}
 use Rattle.dump_text.proofs.Walk.{chunk_end, chunk_full, chunk_more}
 use Rattle.dump_text.proofs.Steps.{one_here, one_end}
-use borrow.Author.Rules.{rules}
 use Rattle.dump_text.proofs.told_chunk.Goals as goal
 
 pub returns-then-at-ne0 : goal.returns-then-at-ne0
