@@ -1,4 +1,4 @@
--- `dump_text::runs_chunk` meets its contract. The loop keeps that whatever chunks the rest chunks the whole.
+-- What `dump_text::runs_chunk`'s loop keeps: whatever chunks the rest chunks the whole.
 use mathlib.Core.Path.{◌≡◌}
 use mathlib.Core.List.{List}
 use Prim.Native.Nat.{ℕ, ◌≤◌, ◌<◌, ◌-◌, ◌+◌}
@@ -11,10 +11,13 @@ use Rattle.dump_text.specs.Chunks.{open_steps, Chunked}
 use Rattle.dump_text.proofs.runs_chunk.Given as goal
 
 abbrev pub invariant-loop-next : goal.invariant-loop-next
-invariant-loop-next l =
-    (l.k ≤ length l.out) × (length l.out ≡ length l.initial.out) × (0 < l.next) ×
-    ((o' : List ℕ) (r : Chunk) → Chunked (open_steps (lookup_of (lent l.c l.l0 l.arena l.base.0)) l.w) l.next l.k l.out o' r
-    → Chunked (open_steps (lookup_of (lent l.c l.l0 l.arena l.base.0)) l.w) l.at l.filled l.initial.out o' r)
+invariant-loop-next l = record {
+  filled : l.k ≤ length l.out;
+  long : length l.out ≡ length l.initial.out;
+  past : 0 < l.next;
+  whole : (o' : List ℕ) (r : Chunk) → Chunked (open_steps (lookup_of (lent l.c l.l0 l.arena l.base.0)) l.w) l.next l.k l.out o' r
+      → Chunked (open_steps (lookup_of (lent l.c l.l0 l.arena l.base.0)) l.w) l.at l.filled l.initial.out o' r;
+}
 
 abbrev pub decreases-loop-next : goal.decreases-loop-next
 decreases-loop-next l = total l.w + 1 - l.next
