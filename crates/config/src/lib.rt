@@ -2,6 +2,8 @@
 // gpt.rs, last third: `GranuleProtectionConfig`.
 // The index rules: how an address finds its L0 entry, its word and its granule, and how long tables and ranges are. From gpt.rs, last
 // third: `l0_resolve`, `l1_resolve`, `granule_resolve`.
+#![tactic(auto)]
+
 ghost use Rattle.std.specs.Prelude.{◌≡◌, ◌&&◌, ◌<◌, ◌^◌};
 ghost use Rattle.config.specs.Fields.{pps_width, pgs_width, l0gptsz_width, configured_of, supported_of, Listed};
 ghost use Rattle.config.specs.Flags.{flag_at, config_of};
@@ -117,6 +119,7 @@ pub fn l0gptsz_width(n: u8) -> Width
 }
 
 // The widths, or why there are none: field values, then GPC, then the widths against each other.
+#[tactic(auto, unfolding(crate::specs::Fields::configured_of))]
 pub fn configure(c: Config) -> Configured
     ensures { result ≡ configured_of c }
 {

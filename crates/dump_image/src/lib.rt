@@ -1,4 +1,6 @@
 // The dump's image read: bytes of any length to a fault, or to what a lookup is lent. Added by the port. Crate `dump_image`.
+#![tactic(auto)]
+
 ghost use Rattle.std.specs.Prelude.{◌≡◌, ◌+◌, ◌*◌, ◌^◌, ◌≤◌, ◌<◌, length, get_or};
 ghost use Rattle.dump_image.specs.declared.Head.TheVariants.{Known};
 ghost use Rattle.dump_image.specs.Image.{big_endian, words_from, head_of, verdict_of, headed_of, front_of, read_of, fault_number};

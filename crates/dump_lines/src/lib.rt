@@ -1,4 +1,6 @@
 // The dump's lines as bytes, and the numbers in them, each put into a lent buffer from a place on. Added by the port. Crate `dump_lines`.
+#![tactic(auto)]
+
 ghost use Rattle.std.specs.Prelude.{◌≡◌, [], ◌∷◌, ◌++◌, ◌+◌, ◌≤◌, ◌<◌, ◌^◌, length, take, drop};
 ghost use Rattle.dump_lines.specs.Digits.{digit_of, hex, dec, Put};
 ghost use Rattle.dump_lines.specs.Lines.{gpi_name, names, name, address, line, header, told};

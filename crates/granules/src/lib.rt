@@ -1,5 +1,7 @@
 // `granules`: the sixteen nibbles of a word. Whether each of them is a GPI's, or one GPI's; sixteen GPIs as a word, and one of them read or
 // stored. From table.rs: the descriptors of granules, by value. Which words are such is `l1`'s to say.
+#![tactic(auto)]
+
 ghost use Rattle.std.specs.Prelude.{◌≡◌, ◌<◌, eqb};
 ghost use Rattle.gpi.specs.Gpi.{num, gpi_at, known_at};
 ghost use Rattle.granules.specs.Nibs.{nib, nibs, all};

@@ -1,4 +1,6 @@
 // `l0`: words of the L0 table, what they say, and how they are made. From table.rs: the descriptors of L0, by value.
+#![tactic(auto)]
+
 ghost use Rattle.std.specs.Prelude.{◌≡◌};
 ghost use Rattle.l0.specs.L0.{l0_of, block_word, table_word_of};
 

@@ -1,4 +1,6 @@
 // `l1`: words of the L1 tables, what they say, and how they are made. From table.rs: the descriptors of L1, by value.
+#![tactic(auto)]
+
 ghost use Rattle.std.specs.Prelude.{◌≡◌, ◌<◌, ◌≤◌};
 ghost use Rattle.theory.specs.Normal.{span as span_of};
 ghost use Rattle.l1.specs.Arm.{level_of};

@@ -1,5 +1,7 @@
 // Crate resolve. Where an address lies: the refusals 1 to 8 in their order, once for every call, and the tests behind them. From gpt.rs:
 // what `lookup` and `set` begin with, `Error` and `GranuleError`, and what is added to them.
+#![tactic(auto)]
+
 ghost use Rattle.std.specs.Prelude.{◌≡◌, false, ◌≤◌, ◌<◌, ◌^◌};
 ghost use Rattle.resolve.specs.Refusals.{refusal_number, arena_bad, log_short, gpi_bad, outside};
 ghost use Rattle.config.specs.Fields.{configured_of, Listed};
@@ -159,6 +161,7 @@ enum Admitted {
 
 // The refusals 1 to 6 in their order. The tests are asked first and judged then: one that is called behind several others counts as rare,
 // and the compiler would leave its call standing in a lookup.
+#[tactic(auto, using(std::proofs::lemmas::Bool::Decides::nat_tests), unfolding(crate::specs::Place::place_of, crate::specs::Place::located))]
 fn admit(d: Configured, l0: &[u64], q: Ask) -> Admitted
     requires { d ≡ configured_of q.config }
     ensures { Told q l0.now result }

@@ -1,7 +1,7 @@
 -- Where the ranges of a set lie, in the crate `set_table`: each range around the index is in the 512 MB range.
 use mathlib.Core.Path.{◌≡◌}
 use mathlib.Core.List.{List}
-use Prim.Native.Nat.{ℕ, zero, suc, ◌+◌, ◌-◌, ◌*◌, ◌≤◌, ◌<◌}
+use Prim.Native.Nat.{ℕ, zero, suc, ◌+◌, ◌*◌, ◌≤◌, ◌<◌}
 use native.Mathlib.Nat.{div-mul-le_self, le_trans, le_refl}
 use native.Mathlib.Omega.{arith}
 use lib.ListN.{length}

@@ -1,6 +1,8 @@
 // A contiguous entry broken up: its range refilled at the next smaller size. From gpt.rs: `shatter_contig`, and the barriers after it.
 // The scans after a granule store, and the fill of the largest range that matched. From gpt.rs: `can_fuse`, `fuse_descriptors`, `fuse`.
 // A set of one L1 table. From gpt.rs: the second half of `set`.
+#![tactic(auto)]
+
 ghost use Rattle.std.specs.Prelude.{◌≡◌, ◌++◌, ℕ, ◌+◌, ◌*◌, ◌≤◌, ◌<◌, ◌^◌, length};
 ghost use Rattle.gpi.specs.Gpi.{num};
 ghost use Rattle.gpi.specs.Size.{bytes_of};

@@ -1,5 +1,7 @@
 // The two routines that store, each with its record, and the barriers. From gpt.rs: `fill_descs`, and the store and the barriers of `set`.
 // A set writes its table only in `fill_descs` and in `store_granule`; each makes its own record with its words.
+#![tactic(auto)]
+
 ghost use Rattle.std.specs.Prelude.{◌≡◌, List, [], ◌∷◌, ℕ, ◌+◌, ◌*◌, ◌≤◌, ◌<◌, length};
 ghost use Rattle.std.proofs.lemmas.List.Edits.{sets};
 ghost use Rattle.theory.specs.Events.{granule as granuleStored};

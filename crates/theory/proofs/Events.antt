@@ -10,7 +10,7 @@ use lib.Dec.{eqb}
 use lib.ListN.{length, set, drop, length-append}
 use lib.Seq.{sets, sets-eq, length-sets}
 use Rattle.theory.specs.Stores.{Store, fill, moved, shifted}
-use Rattle.theory.specs.Events.{Kind, dsb-oshst, tlbi, dsb-osh, kind_number, Event, filled, granule, barrier, stores_of, stores}
+use Rattle.theory.specs.Events.{Kind, dsb_oshst, tlbi, dsb_osh, kind_number, Event, filled, granule, barrier, stores_of, stores}
 use Rattle.theory.specs.Events.{count_of, count}
 use Rattle.theory.specs.Events.{record_of, records, logged, told, read_log}
 
@@ -89,9 +89,9 @@ shifted-fill o a (suc n) w = ap (λ (r : List Store). record { index = o + a; wo
 
 -- a barrier's number is neither that of a fill nor that of a granule store
 pub barrier_number : (k : Kind) → (eqb (kind_number k) 1 ≡ false) × (eqb (kind_number k) 5 ≡ false)
-barrier_number dsb-oshst = (refl, refl)
+barrier_number dsb_oshst = (refl, refl)
 barrier_number tlbi = (refl, refl)
-barrier_number dsb-osh = (refl, refl)
+barrier_number dsb_osh = (refl, refl)
 
 -- so its record tells no store
 pub barrier_tells : (k : Kind) (x y z : ℕ) → told (kind_number k) x y z ≡ []

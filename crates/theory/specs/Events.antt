@@ -6,12 +6,12 @@ use Rattle.theory.specs.Stores.{Store, fill}
 
 -- the kinds of barrier, and their numbers in the log: 2 DSB OSHST, 3 TLBI range, 4 DSB OSH
 pub data Kind : Type 0 where
-  dsb-oshst tlbi dsb-osh : Kind
+  dsb_oshst tlbi dsb_osh : Kind
 
 abbrev pub kind_number : Kind → ℕ
-kind_number dsb-oshst = 2
+kind_number dsb_oshst = 2
 kind_number tlbi = 3
-kind_number dsb-osh = 4
+kind_number dsb_osh = 4
 
 -- what a set does; an index is one of the table
 pub data Event : Type 0 where

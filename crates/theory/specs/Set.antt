@@ -4,7 +4,7 @@ use Rattle.std.specs.Prelude.{◌≡◌, true, cond, List, [], ◌∷◌, ◌++�
 use Rattle.theory.specs.Format.{Format, gpi, reads}
 use Rattle.theory.specs.Normal.{at, span, base, In}
 use Rattle.theory.specs.Stores.{Store, apply}
-use Rattle.theory.specs.Events.{Event, filled, granule, barrier, dsb-oshst, tlbi, dsb-osh, stores}
+use Rattle.theory.specs.Events.{Event, filled, granule, barrier, dsb_oshst, tlbi, dsb_osh, stores}
 use Rattle.theory.specs.declared.Scan.{Scan}
 use Rattle.theory.specs.declared.Scan.TheVariants.{All, Differs, Invalid}
 use Rattle.theory.specs.declared.Fused.{Fused}
@@ -26,7 +26,7 @@ fill_event a (suc n) w = filled a (suc n) w ∷ []
 
 -- "2, 3 with bytes b, 4"; x is the address as given
 abbrev pub barriers : ℕ → ℕ → List Event
-barriers x b = barrier dsb-oshst 0 0 ∷ barrier tlbi x b ∷ barrier dsb-osh 0 0 ∷ []
+barriers x b = barrier dsb_oshst 0 0 ∷ barrier tlbi x b ∷ barrier dsb_osh 0 0 ∷ []
 
 -- bytes of a level: 2, 32, 512 MB
 abbrev pub bytes : ℕ → ℕ

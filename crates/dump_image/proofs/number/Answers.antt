@@ -1,18 +1,9 @@
 -- `dump_image::number` meets its contract. The loop keeps that v is the number of the first k bytes.
-use mathlib.Core.Path.{◌≡◌, ap, ◌∙◌}
-use Prim.Native.Nat.{◌≤◌, ◌<◌, ◌-◌, ◌+◌, ◌^◌}
+use Prim.Native.Nat.{◌<◌, ◌+◌}
 use native.Mathlib.Omega.{arith}
-use borrow.Author.Rules.{rules}
 use lib.Dec.{lit<}
-use Rattle.dump_image.specs.Image.{big_endian}
 use Rattle.dump_image.proofs.Numbers.{room, grown, number_more, number-none}
 use Rattle.dump_image.proofs.number.Goals as goal
-
--- the byte read is one
-byte : (c : tie.After-wide invariant-loop decreases-loop) → c.wide.result < 256
-byte c =
-    let l = c.before.before.before in
-    omega (arith, c.wide.ensures, c.before.shared-slice-known2.given (l.before.before.args.at + l.loop.k))
 
 pub loop-k-init : goal.loop-k-init
 loop-k-init c = (omega arith, number-none _ _, lit< tt)
@@ -22,12 +13,10 @@ overflow_mul-v c = let h = room {b = 0} c.loop-k.invariant.2 c.loop-k-test.true 
 
 pub overflow_add-v : goal.overflow_add-v
 overflow_add-v c =
-    let h = room c.loop-k.invariant.2 c.loop-k-test.true c.requires.1 (byte c) in omega arith
+    let b : c.wide.result < 256 = omega (arith, c.type_inv.s (c.args.at + c.loop-k.k)) in
+    let h = room c.loop-k.invariant.2 c.loop-k-test.true c.requires.1 b in omega arith
 
 pub loop-k-preserved : goal.loop-k-preserved
-loop-k-preserved c = (omega arith, number_more _ _ _ c.loop-k.invariant.1 c.wide.ensures, grown _ c.loop-k.invariant.2 (byte c))
-
-pub returns : goal.returns
-returns c =
-    let e : c.loop-k.k ≡ c.args.n = omega arith in
-    (c.loop-k.invariant.1 ∙ ap (big_endian c.args.s.now c.args.at) e, rw (← e) c.loop-k.invariant.2)
+loop-k-preserved c =
+    let b : c.wide.result < 256 = omega (arith, c.type_inv.s (c.args.at + c.loop-k.k)) in
+    (omega arith, number_more _ _ _ c.loop-k.invariant.1 c.wide.ensures, grown _ c.loop-k.invariant.2 b)

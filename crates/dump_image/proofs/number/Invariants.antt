@@ -1,11 +1,7 @@
 -- `dump_image::number` meets its contract. The loop keeps that v is the number of the first k bytes.
-use mathlib.Core.Path.{◌≡◌, ap, ◌∙◌}
-use Prim.Native.Nat.{◌≤◌, ◌<◌, ◌-◌, ◌+◌, ◌^◌}
-use native.Mathlib.Omega.{arith}
-use borrow.Author.Rules.{rules}
-use lib.Dec.{lit<}
+use mathlib.Core.Path.{◌≡◌}
+use Prim.Native.Nat.{◌≤◌, ◌<◌, ◌-◌, ◌^◌}
 use Rattle.dump_image.specs.Image.{big_endian}
-use Rattle.dump_image.proofs.Numbers.{room, grown, number_more, number-none}
 use Rattle.dump_image.proofs.number.Given as goal
 
 abbrev pub invariant-loop-k : goal.invariant-loop-k

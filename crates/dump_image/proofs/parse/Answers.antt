@@ -1,6 +1,5 @@
 -- `dump_image::parse` meets its contract.
 use mathlib.Core.Path.{sym, ◌∙◌}
-use borrow.Author.Rules.{rules}
 use borrow.Author.Tests.{lt-ltb, le-ltb}
 use Rattle.dump_image.specs.Image.{read_of}
 use Rattle.dump_image.proofs.parse.Goals as goal

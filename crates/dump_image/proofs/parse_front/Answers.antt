@@ -1,19 +1,13 @@
 -- `dump_image::parse_front` meets its contract.
 use mathlib.Core.Path.{sym, ap, ◌∙◌}
-use borrow.Author.Rules.{rules}
 use borrow.Author.Tests.{eq-eqb, ne_eqb}
 use lib.ListN.{get_or}
 use Rattle.dump_image.specs.Image.{headed_of, front_of}
-use Rattle.dump_image.proofs.Fits.{fields-few}
 use Rattle.dump_image.proofs.parse_front.Goals as goal
 
 pub returns-then-s-eq0 : goal.returns-then-s-eq0
 unfolding front_of
 returns-then-s-eq0 c = rw (eq-eqb _ _ c.if-s-eq0.true)
-
-pub headed-requires : goal.headed-requires
-headed-requires c =
-    fields-few (get_or c.args.s.now 0 0) _ (sym c.head_of.ensures ∙ c.in-Known.is)
 
 pub returns-in-Known : goal.returns-in-Known
 unfolding front_of

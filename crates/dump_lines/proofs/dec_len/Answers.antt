@@ -1,9 +1,7 @@
 -- `dump_lines::dec_len` meets its contract. The loop keeps that the digits left and those counted are all.
-use mathlib.Core.Path.{◌≡◌, ap}
-use Prim.Native.Nat.{◌+◌}
+use mathlib.Core.Path.{ap}
 use native.Mathlib.Omega.{arith}
 use lib.ListN.{length}
-use Rattle.dump_lines.specs.Digits.{dec}
 use Rattle.dump_lines.proofs.Decimal.{dec-one, length_more, length_some, length-dec}
 use Rattle.dump_lines.proofs.dec_len.Goals as goal
 

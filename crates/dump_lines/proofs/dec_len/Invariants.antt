@@ -1,10 +1,8 @@
 -- `dump_lines::dec_len` meets its contract. The loop keeps that the digits left and those counted are all.
-use mathlib.Core.Path.{◌≡◌, ap}
+use mathlib.Core.Path.{◌≡◌}
 use Prim.Native.Nat.{◌+◌}
-use native.Mathlib.Omega.{arith}
 use lib.ListN.{length}
 use Rattle.dump_lines.specs.Digits.{dec}
-use Rattle.dump_lines.proofs.Decimal.{dec-one, length_more, length_some, length-dec}
 use Rattle.dump_lines.proofs.dec_len.Given as goal
 
 abbrev pub invariant-loop-v : goal.invariant-loop-v

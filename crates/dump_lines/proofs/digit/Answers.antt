@@ -1,6 +1,5 @@
 -- `dump_lines::digit` meets its contract.
 use Rattle.dump_lines.proofs.Bytes.{digit_low, digit_high}
-use borrow.Author.Rules.{rules}
 use Rattle.dump_lines.proofs.digit.Goals as goal
 
 pub returns-then-d-lt10 : goal.returns-then-d-lt10

@@ -7,13 +7,7 @@ use Rattle.dump_lines.specs.Digits.{dec}
 use Rattle.dump_lines.specs.Lines.{name}
 use native.Mathlib.Omega.{arith}
 use Rattle.dump_lines.proofs.Lengths.{length-name}
-use borrow.Author.Rules.{rules}
 use Rattle.dump_lines.proofs.name_len.Goals as goal
-
-pub returns-in-Ok : goal.returns-in-Ok
-returns-in-Ok c =
-    let e = ap (λ (x : Looked). length (name x)) c.in-Ok.is in
-    let h = length-name c.args.a in let k = c.gpi_len.ensures in (omega arith, omega arith)
 
 pub returns-in-Refused : goal.returns-in-Refused
 returns-in-Refused c =

@@ -1,11 +1,8 @@
 -- `dump_lines::put` meets its contract. What is left to copy says the same as the whole.
-use mathlib.Core.Path.{◌≡◌, refl}
+use mathlib.Core.Path.{◌≡◌}
 use Prim.Native.Nat.{◌≤◌, ◌-◌, ◌+◌}
-use native.Mathlib.Nat.{add-zero}
-use native.Mathlib.Omega.{arith}
-use lib.ListN.{length, drop, length-set}
+use lib.ListN.{length, drop}
 use lib.Seq.{sets}
-use Rattle.dump_lines.proofs.Bytes.{copy_more, copy_end}
 use Rattle.dump_lines.proofs.put.Given as goal
 
 abbrev pub invariant-loop-k : goal.invariant-loop-k

@@ -4,7 +4,6 @@ use Rattle.dump_lines.specs.Digits.{hex}
 use Rattle.dump_lines.specs.Lines.{space, address}
 use Rattle.dump_lines.proofs.Bytes.{then_put, room_next}
 use Rattle.dump_lines.proofs.Lengths.{length-address}
-use borrow.Author.Rules.{rules}
 use Rattle.dump_lines.proofs.put_address.Goals as goal
 
 pub put_hex-a-requires : goal.put_hex-a-requires

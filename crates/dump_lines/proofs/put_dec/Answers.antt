@@ -1,10 +1,8 @@
 -- `dump_lines::put_dec` meets its contract. What is left to put says the same as the whole.
-use mathlib.Core.Path.{◌≡◌, refl}
-use Prim.Native.Nat.{◌+◌, ◌/◌, ◌≤◌, ◌<◌}
+use mathlib.Core.Path.{refl}
+use Prim.Native.Nat.{◌/◌, ◌≤◌}
 use native.Mathlib.Omega.{arith}
-use lib.ListN.{length, length-set}
-use lib.Seq.{sets}
-use Rattle.dump_lines.specs.Digits.{dec}
+use lib.ListN.{length-set}
 use Rattle.dump_lines.proofs.Decimal.{length_more, length_some, dec-next, dec-last}
 use Rattle.dump_lines.proofs.put_dec.Goals as goal
 

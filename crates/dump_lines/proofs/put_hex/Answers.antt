@@ -1,15 +1,8 @@
 -- `dump_lines::put_hex` meets its contract. What is left to write says the same as the whole.
-use mathlib.Core.Path.{◌≡◌, refl}
-use Prim.Native.Nat.{◌≤◌, ◌+◌}
 use native.Mathlib.Omega.{arith}
-use lib.ListN.{length, length-set}
-use lib.Seq.{sets}
-use Rattle.dump_lines.specs.Digits.{hex}
+use lib.ListN.{length-set}
 use Rattle.dump_lines.proofs.Bytes.{hex-more, hex-end}
 use Rattle.dump_lines.proofs.put_hex.Goals as goal
-
-pub loop-left-init : goal.loop-left-init
-loop-left-init c = (omega arith, refl, refl, refl)
 
 pub loop-left-preserved : goal.loop-left-preserved
 loop-left-preserved c =

@@ -1,11 +1,9 @@
 -- `dump_lines::put_hex` meets its contract. What is left to write says the same as the whole.
-use mathlib.Core.Path.{◌≡◌, refl}
+use mathlib.Core.Path.{◌≡◌}
 use Prim.Native.Nat.{◌≤◌, ◌+◌}
-use native.Mathlib.Omega.{arith}
-use lib.ListN.{length, length-set}
+use lib.ListN.{length}
 use lib.Seq.{sets}
 use Rattle.dump_lines.specs.Digits.{hex}
-use Rattle.dump_lines.proofs.Bytes.{hex-more, hex-end}
 use Rattle.dump_lines.proofs.put_hex.Given as goal
 
 abbrev pub invariant-loop-left : goal.invariant-loop-left

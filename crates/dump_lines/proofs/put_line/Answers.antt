@@ -3,9 +3,9 @@ use mathlib.Core.List.{List, ◌++◌}
 use Prim.Native.Nat.{ℕ, ◌+◌, ◌≤◌}
 use lib.ListN.{length}
 use Rattle.dump_lines.specs.declared.Run.{Run}
+use Rattle.dump_lines.specs.Digits.{Put}
 use Rattle.dump_lines.specs.Lines.{name, feed, address, line}
 use Rattle.dump_lines.proofs.Bytes.{then_put, room_first, room_next}
-use borrow.Author.Rules.{rules}
 use Rattle.dump_lines.proofs.put_line.Goals as goal
 
 -- what follows the last address, and the first
@@ -15,16 +15,11 @@ named r = name r.answer ++ feed
 abbrev ended : Run → List ℕ
 ended r = address r.last ++ named r
 
-room : (c : tie.After-put-address2)
-    → let s = c.before.before.before.before.before.before.before in
-    c.put-address2.result + length (named s.args.r) ≤ length c.put-address2.new.0
+-- behind both addresses there is room for the rest
+room : (r : Run) {o o₁ o₂ : List ℕ} {i m n : ℕ} → i + length (line r) ≤ length o → Put o i (address r.start) o₁ m
+    → Put o₁ m (address r.last) o₂ n → n + length (named r) ≤ length o₂
 unfolding line
-room c =
-    let p = c.before.before.before.before in
-    let s = p.before.before.before in
-    let r = s.args.r in
-    room_next (address r.last) (named r) c.put-address2.ensures
-    (room_next (address r.start) (ended r) p.put-address.ensures s.requires)
+room r h p q = room_next (address r.last) (named r) q (room_next (address r.start) (ended r) p h)
 
 pub put_address-a-requires : goal.put_address-a-requires
 unfolding line
@@ -38,11 +33,13 @@ put_address-b-requires c =
 
 pub put_name-d-requires : goal.put_name-d-requires
 put_name-d-requires c =
-    room_first (name c.args.r.answer) feed _ _ (room TODO{place p = After-put_address2})
+    let r = c.args.r in
+    room_first (name r.answer) feed _ _ (room r c.requires c.put_address-a.ensures c.put_address-b.ensures)
 
 pub put_byte-requires : goal.put_byte-requires
 put_byte-requires c =
-    room_next (name c.args.r.answer) feed c.put_name-d.ensures (room TODO{place p = After-put_address2})
+    let r = c.args.r in
+    room_next (name r.answer) feed c.put_name-d.ensures (room r c.requires c.put_address-a.ensures c.put_address-b.ensures)
 
 pub returns : goal.returns
 unfolding line

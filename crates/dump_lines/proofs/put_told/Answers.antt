@@ -3,7 +3,6 @@ use mathlib.Core.List.{◌++◌}
 use Rattle.dump_lines.specs.Digits.{dec}
 use Rattle.dump_lines.specs.Lines.{feed, told}
 use Rattle.dump_lines.proofs.Bytes.{then_put, room_first, room_next}
-use borrow.Author.Rules.{rules}
 use Rattle.dump_lines.proofs.put_told.Goals as goal
 
 pub put_numbered-b-requires : goal.put_numbered-b-requires

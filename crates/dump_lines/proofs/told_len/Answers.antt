@@ -1,7 +1,6 @@
 -- `dump_lines::told_len` meets its contract.
 use native.Mathlib.Omega.{arith}
 use Rattle.dump_lines.proofs.Lengths.{length-told}
-use borrow.Author.Rules.{rules}
 use Rattle.dump_lines.proofs.told_len.Goals as goal
 
 pub returns : goal.returns

@@ -3,7 +3,9 @@ use mathlib.Core.Path.{◌≡◌, sym, ap, ◌∙◌}
 use native.Mathlib.Omega.{arith}
 use Prim.Native.Nat.{◌≤◌, ◌<◌, ◌-◌, ◌^◌}
 use lib.Pow.{pow_mono}
-use Rattle.resolve.specs.Lent.{lent}
+use Rattle.config.specs.declared.Widths.{Widths}
+use Rattle.resolve.specs.Lent.{Lent, lent}
+use Rattle.dump_runs.specs.Inner.{Open}
 use Rattle.gpt.specs.Lookup.{lookup_of}
 use Rattle.dump_runs.specs.Runs.{code_of, runs, from, total}
 use Rattle.dump_runs.proofs.Near.{pps_most}
@@ -12,49 +14,41 @@ use Rattle.dump_runs.proofs.Walk.{start-run, more_run, end_run, last_run}
 use Rattle.dump_runs.proofs.next_run.Goals as goal
 
 -- the widths' bound
-top : (c : tie.Start invariant-loop decreases-loop) → (c.args.w.pps ≤ 52) × (total c.args.w ≤ 2 ^ 52)
-top c =
-    let a = c.args in
-    let m = pps_most (lent a.c a.l0.now a.arena.now a.base.0) a.w c.requires.0 in
-    (m, pow_mono m)
+top : (q : Lent) (w : Widths) → Open q w → (w.pps ≤ 52) × (total w ≤ 2 ^ 52)
+top q w o = let m = pps_most q w o in (m, pow_mono m)
 
 pub pow2-end-requires : goal.pow2-end-requires
-pow2-end-requires c = let t = top TODO{place c.before.before = Start} in omega arith
-
-pub piece_at-p-requires : goal.piece_at-p-requires
-piece_at-p-requires c = (c.requires.fact, c.requires.a_bound)
+pow2-end-requires c = let t = top _ _ c.requires.fact in omega arith
 
 pub loop-last-init : goal.loop-last-init
 loop-last-init c =
-    let p = c.piece_at-p.ensures in (p.from, p.inside, p.answer ∙ sym (p.same _ p.from (omega arith)), c.code-same.ensures, start-run _ _ _ _ c.requires.a_bound p)
+    let p = c.piece_at-p.ensures in
+    (p.from, p.inside, p.answer ∙ sym (p.same _ p.from (omega arith)), c.code-same.ensures, start-run _ _ _ _ c.requires.a_bound p)
 
 pub overflow_add-last : goal.overflow_add-last
 overflow_add-last c =
-    let e = c.pow2-end.ensures in let t = top TODO{place s = Start} in
+    let e = c.pow2-end.ensures in let t = top _ _ c.requires.fact in
     let h = c.loop-last.invariant.1 in omega arith
 
 pub overflow_add-last-in-loop-last : goal.overflow_add-last-in-loop-last
 overflow_add-last-in-loop-last c =
     let e = c.pow2-end.ensures in
-    let t = top TODO{place s = Start} in let h = c.loop-last.invariant.1 in omega arith
+    let t = top _ _ c.requires.fact in let h = c.loop-last.invariant.1 in omega arith
 
 pub piece_at-q-requires : goal.piece_at-q-requires
 piece_at-q-requires c =
     let e = c.pow2-end.ensures in
-    let t = top TODO{place s = Start} in (c.requires.fact, omega arith)
+    let t = top _ _ c.requires.fact in record { fact = c.requires.fact; a_bound = omega arith }
 
 pub returns-then-code-same : goal.returns-then-code-same
 returns-then-code-same c =
-    let e = c.pow2-end.ensures in let t = top TODO{place s = Start} in
+    let e = c.pow2-end.ensures in let t = top _ _ c.requires.fact in
     end_run _ _ _ _ _ c.loop-last.invariant.0 (omega arith) c.loop-last.invariant.2 c.loop-last.invariant.4 c.piece_at-q.ensures
     (λ z. c.if-code-same.true (let o = c.code.ensures in let v = c.loop-last.invariant.3 in cc))
 
-pub loop-last-smaller : goal.loop-last-smaller
-loop-last-smaller c = let p = c.piece_at-q.ensures in let f = p.from in let i = p.inside in omega arith
-
 pub loop-last-preserved : goal.loop-last-preserved
 loop-last-preserved c =
-    let e = c.pow2-end.ensures in let t = top TODO{place s = Start} in
+    let e = c.pow2-end.ensures in let t = top _ _ c.requires.fact in
     let q = c.piece_at-q.ensures in let f = q.from in let i = q.inside in
     let u = c.loop-last.invariant.0 in let z = sym c.code.ensures ∙ c.if-code-same.false ∙ c.loop-last.invariant.3 in (
       omega arith,
@@ -68,4 +62,5 @@ loop-last-preserved c =
 pub returns : goal.returns
 returns c =
     let e = c.pow2-end.ensures in
-    let t = top TODO{place s = Start} in last_run _ _ _ _ c.loop-last.invariant.0 c.loop-last.invariant.1 (omega arith) c.loop-last.invariant.2 c.loop-last.invariant.4
+    let t = top _ _ c.requires.fact in
+    last_run _ _ _ _ c.loop-last.invariant.0 c.loop-last.invariant.1 (omega arith) c.loop-last.invariant.2 c.loop-last.invariant.4

@@ -12,10 +12,10 @@ use Rattle.dump_text.proofs.loaded_chunk.Goals as goal
 
 pub returns : goal.returns
 returns c =
-    let s = TODO{k.before.before.before.before.before.before} in
-    let a = s.args in
-    same_steps (ap₂ (λ (L A : List ℕ). table_steps (lent a.f.config L A a.f.base.0))
-    (TODO{After-slice_known3:copy-words.ensures} ∙ ap (words_from a.s.now a.f.words) s.requires.0)
-    (TODO{After-slice_known4:copy-words2.ensures}
-    ∙ ap₂ (words_from a.s.now) (let z = TODO{After-slice_known3:copy-words.auto.0} in let e = s.requires.0 in omega arith) s.requires.1))
+    let a = c.args in
+    same_steps
+    (ap₂ (λ (L A : List ℕ). table_steps (lent a.f.config L A a.f.base.0))
+    (c.copy_words.ensures ∙ ap (words_from a.s.now a.f.words) c.requires.0)
+    (c.copy_words-2.ensures
+    ∙ ap₂ (words_from a.s.now) (let z = c.copy_words.auto.out in let e = c.requires.0 in omega arith) c.requires.1))
     c.table_chunk.ensures

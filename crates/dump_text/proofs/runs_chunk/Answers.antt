@@ -5,9 +5,12 @@ use native.Mathlib.Omega.{arith}
 use Prim.Native.Nat.{ℕ, ◌≤◌, ◌<◌, ◌-◌, ◌+◌, ◌^◌}
 use lib.ListN.{length}
 use lib.Pow.{pow_mono}
-use Rattle.resolve.specs.Lent.{lent}
+use Rattle.config.specs.declared.Widths.{Widths}
+use Rattle.resolve.specs.Lent.{Lent, lent}
+use Rattle.dump_lines.specs.declared.Run.{Run}
+use Rattle.dump_runs.specs.Inner.{Open}
 use Rattle.gpt.specs.Lookup.{lookup_of}
-use Rattle.dump_lines.specs.Lines.{line}
+use Rattle.dump_lines.specs.Lines.{line, name}
 use Rattle.dump_lines.proofs.Bytes.{put-length}
 use Rattle.dump_lines.proofs.Lengths.{length-line}
 use Rattle.dump_runs.specs.Runs.{total}
@@ -19,23 +22,15 @@ use Rattle.dump_text.proofs.Steps.{run-leads, runs-end}
 use Rattle.dump_text.proofs.runs_chunk.Goals as goal
 
 -- the widths' bound
-top : (c : tie.Start invariant-loop decreases-loop) → (c.args.w.pps ≤ 52) × (total c.args.w ≤ 2 ^ 52)
-top c =
-    let a = c.args in
-    let m = pps_most (lent a.c a.l0.now a.arena.now a.base.0) a.w c.requires.0 in
-    (m, pow_mono m)
+top : (q : Lent) (w : Widths) → Open q w → (w.pps ≤ 52) × (total w ≤ 2 ^ 52)
+top q w o = let m = pps_most q w o in (m, pow_mono m)
 
 -- the line fits
-fits : (c : tie.Else1 invariant-loop decreases-loop)
-    → let l = c.before.before.before.before.loop in l.k + length (line c.before.before.next-run.result) ≤ length l.out
-fits c =
-    let e = length-line c.before.before.next-run.result in
-    let k = c.before.line-len.ensures in
-    let h = c.before.before.before.before.loop.invariant.0 in
-    omega arith
+fits : (r : Run) (k n m : ℕ) → m ≡ 29 + length (name r.answer) → k ≤ n → m ≤ n - k → k + length (line r) ≤ n
+fits r k n m e h i = let l = length-line r in omega arith
 
 pub pow2-end-requires : goal.pow2-end-requires
-pow2-end-requires c = let t = top TODO{place c.before.before.before = Start} in omega arith
+pow2-end-requires c = let t = top _ _ c.requires.fact in omega arith
 
 pub loop-next-init : goal.loop-next-init
 loop-next-init c = (c.requires.at_nonzero.1, refl, c.requires.at_nonzero.0, λ o' r z. z)
@@ -45,7 +40,7 @@ overflow_sub-next c = c.loop-next.invariant.2
 
 pub next_run-r-requires : goal.next_run-r-requires
 next_run-r-requires c =
-    let e = c.pow2-end.ensures in let h = c.loop-next.invariant.2 in (c.requires.fact, omega arith)
+    let e = c.pow2-end.ensures in let h = c.loop-next.invariant.2 in record { fact = c.requires.fact; a_bound = omega arith }
 
 pub overflow_sub-out : goal.overflow_sub-out
 overflow_sub-out c = c.loop-next.invariant.0
@@ -59,12 +54,12 @@ returns-then-out-k c =
     l.invariant.3 _ _ (chunk_full _ _ _ _ (run_step r.result) _ (run-leads _ _ _ _ l.invariant.2 r.ensures).is (omega arith))
 
 pub put_line-k-requires : goal.put_line-k-requires
-put_line-k-requires c = fits TODO{place c.before = Else1}
+put_line-k-requires c = fits c.next_run-r.result _ _ _ c.line_len.ensures c.loop-next.invariant.0 c.if-out-k.false
 
 pub overflow_add-next : goal.overflow_add-next
 overflow_add-next c =
     let e = c.pow2-end.ensures in
-    let t = top TODO{place s = Start} in let h = c.next_run-r.ensures.inside in omega arith
+    let t = top _ _ c.requires.fact in let h = c.next_run-r.ensures.inside in omega arith
 
 pub loop-next-smaller : goal.loop-next-smaller
 loop-next-smaller c =
@@ -77,7 +72,7 @@ loop-next-preserved c =
     let l = c.loop-next in
     let r = c.next_run-r in
     let p = c.put_line-k in
-    let f = fits TODO{place c.before.before.before.before.before = Else1} in
+    let f = fits c.next_run-r.result _ _ _ c.line_len.ensures c.loop-next.invariant.0 c.if-out-k.false in
     let m = put-length p.ensures in
     let q = p.ensures.place in (
       omega arith,

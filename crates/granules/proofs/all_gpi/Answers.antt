@@ -1,11 +1,9 @@
 -- `granules::all_gpi` meets its contract. The invariant: what is left says the same as the whole.
-use mathlib.Core.Path.{◌≡◌, sym, ◌∙◌}
-use Prim.Native.Nat.{◌%◌, ◌≤◌}
+use mathlib.Core.Path.{sym, ◌∙◌}
+use Prim.Native.Nat.{◌%◌}
 use native.Mathlib.Omega.{arith}
-use borrow.Author.Rules.{rules}
 use borrow.Author.Tests.{eq-eqb, ne_eqb}
 use lib.Dec.{eqb}
-use Rattle.granules.specs.Nibs.{nibs, all}
 use Rattle.granules.proofs.Digits.{walk_end, walk_miss, walk_hit}
 use Rattle.granules.proofs.all_gpi.Goals as goal
 

@@ -1,6 +1,5 @@
 -- `granules::gpi_at` meets its contract: a shift by four times i, and the low nibble.
 use mathlib.Core.Path.{◌∙◌, ap}
-use borrow.Author.Rules.{rules}
 use Rattle.gpi.specs.Gpi.{gpi_at}
 use Rattle.granules.proofs.Store.{shifted-nib}
 use Rattle.granules.proofs.gpi_at.Goals as goal

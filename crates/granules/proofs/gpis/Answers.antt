@@ -1,10 +1,8 @@
 -- `granules::gpis` meets its contract. The invariant: the GPIs stored, and those of the nibbles left, are the word's.
 use mathlib.Core.Path.{refl}
-use Prim.Native.Nat.{◌-◌}
-use native.Mathlib.Omega.{arith}
 use borrow.Author.Rules.{rules}
 use Rattle.granules.specs.Packed.{gpis_of}
-use Rattle.granules.proofs.Packed.{Taking, take-one, take-end}
+use Rattle.granules.proofs.Packed.{take-one, take-end}
 use Rattle.granules.proofs.gpis.Goals as goal
 
 pub loop-n-init : goal.loop-n-init

@@ -1,7 +1,8 @@
 -- `l0::l0_entry` meets its contract.
 use mathlib.Core.Path.{sym, ap, ◌∙◌}
+use Prim.Native.Nat.{◌%◌}
+use native.Mathlib.Omega.{arith}
 use borrow.Author.Tests.{ne_eqb}
-use borrow.Author.Rules.{rules}
 use lib.Bits.{and_high}
 use Rattle.pa.specs.Pa.{pa}
 use Rattle.l0.specs.L0.{l0_of}
@@ -22,4 +23,5 @@ returns-in-3 c = rw c.in-3.is (ap (λ a. Table (pa a)) (and_high c.args.w 40 12)
 
 pub returns-in_default : goal.returns-in_default
 unfolding l0_of
-returns-in_default c = rw (ne_eqb _ 1 c.in_default.in_default-own.TODO.rest.0.1, ne_eqb _ 3 c.in_default.in_default-own.TODO.rest.1)
+returns-in_default c =
+    rw (ne_eqb (c.args.w % 16) 1 (λ e. omega arith), ne_eqb (c.args.w % 16) 3 (λ e. omega arith))

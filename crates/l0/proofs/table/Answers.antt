@@ -2,7 +2,6 @@
 use mathlib.Core.Path.{◌≡◌}
 use Prim.Native.Nat.{ℕ, ◌+◌, ◌%◌, ◌^◌, ◌<◌, ◌≤◌}
 use borrow.Author.Tests.{eq-eqb, ne_eqb, lt-ltb, le-ltb}
-use borrow.Author.Rules.{rules}
 use Rattle.l0.specs.declared.TableWord.TheVariants.{Word, Refused}
 use Rattle.l0.specs.L0.{table_word_of}
 use Rattle.l0.proofs.table.Goals as goal

@@ -2,18 +2,17 @@
 use mathlib.Core.Path.{refl, sym, ap₂, ◌∙◌}
 use Rattle.l1.specs.L1.{contiguous_of}
 use Rattle.l1.proofs.Entries.{l1_tagged, l1_asked}
-use borrow.Author.Rules.{rules}
 use Rattle.l1.proofs.l1_entry.Goals as goal
 
 pub returns-in-Is : goal.returns-in-Is
 returns-in-Is c =
     sym (l1_tagged _ c.if-w-eq1.true
-    ∙ ap₂ contiguous_of (sym c.gpi_of.ensures ∙ c.in-Known.is) (sym TODO{After-size_of:type_size.ensures} ∙ c.in-Is.is))
+    ∙ ap₂ contiguous_of (sym c.gpi_of.ensures ∙ c.in-Known.is) (sym c.size_of.ensures ∙ c.in-Is.is))
 
 pub returns-in-None : goal.returns-in-None
 returns-in-None c =
     sym (l1_tagged _ c.if-w-eq1.true
-    ∙ ap₂ contiguous_of (sym c.gpi_of.ensures ∙ c.in-Known.is) (sym TODO{After-size_of:type_size.ensures} ∙ c.in-None.is))
+    ∙ ap₂ contiguous_of (sym c.gpi_of.ensures ∙ c.in-Known.is) (sym c.size_of.ensures ∙ c.in-None.is))
 
 pub returns-in-Reserved : goal.returns-in-Reserved
 returns-in-Reserved c =

@@ -1,7 +1,6 @@
 -- `l1::read` meets its contract: by the low nibble; a contiguous word reads its GPI whatever its size, if it has one.
 use mathlib.Core.Path.{◌≡◌, refl, sym, ap, ◌∙◌}
 use Prim.Native.Nat.{ℕ, ◌/◌, ◌%◌}
-use borrow.Author.Rules.{rules}
 use Rattle.gpi.specs.declared.Nibble.{Nibble}
 use Rattle.gpi.specs.declared.Nibble.TheVariants.{Known, Reserved}
 use Rattle.gpi.specs.declared.SizeCode.TheVariants.{Is}

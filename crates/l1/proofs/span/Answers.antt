@@ -2,7 +2,6 @@
 use mathlib.Core.Path.{refl}
 use native.Mathlib.Omega.{arith}
 use Rattle.theory.specs.Normal.{span}
-use borrow.Author.Rules.{rules}
 use Rattle.l1.proofs.span.Goals as goal
 
 pub returns-in-MB2 : goal.returns-in-MB2

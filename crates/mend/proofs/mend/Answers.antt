@@ -1,49 +1,38 @@
 -- `mend::mend` meets its contract: by the table that the address names; it is that part of the arena.
-use mathlib.Core.Path.{◌≡◌, sym, ◌∙◌}
+use mathlib.Core.Path.{sym}
 use native.Mathlib.Nat.{add-sub_cancel_left}
 use native.Mathlib.Omega.{arith}
-use lib.ListN.{length}
-use Rattle.resolve.specs.Sited.{Sited}
-use Rattle.resolve.specs.Lent.{Lent, lent, placed}
-use Rattle.mend.specs.declared.Named.TheVariants.{At}
-use Rattle.mend.specs.Outcome.{named_by}
+use Rattle.resolve.specs.Lent.{lent}
 use Rattle.mend.proofs.Sites.{site_regions, sited, mend-refused, mend-in}
-use borrow.Author.Rules.{rules}
 use Rattle.mend.proofs.mend.Goals as goal
 
-abbrev start : tie.After-table-named → tie.Start
-start c = c.before.before.before
+pub overflow_add-end : goal.overflow_add-end
+overflow_add-end c =
+    let q = lent c.args.c c.args.l0.now c.args.arena.now c.args.base.0 in
+    let s = sited q c.args.address.0 _ (sym c.in-At.ensures) in omega (arith, s.fits, s.arena)
 
--- what the call is lent
-abbrev from : tie.After-table-named → Lent
-from c = let a = (start c).args in lent a.c a.l0.now a.arena.now a.base.0
+pub offset_bounds-arena-o : goal.offset_bounds-arena-o
+offset_bounds-arena-o c =
+    let q = lent c.args.c c.args.l0.now c.args.arena.now c.args.base.0 in
+    let s = sited q c.args.address.0 _ (sym c.in-At.ensures) in omega (arith, s.fits, s.arena)
 
-there : (c : tie.After-s)
-    → named_by (placed (from c.before.before) (start c.before.before).args.address.0) ≡ At c.s.given.0.0
-there c = sym c.before.before.table-named.ensures ∙ c.s.given.1
-
-at-site : (c : tie.After-s) → Sited (length (start c.before.before).args.arena.now) c.s.given.0.0
-at-site c = sited (from c.before.before) (start c.before.before).args.address.0 _ (there c)
+pub slice_bounds-mend_table-end : goal.slice_bounds-mend_table-end
+slice_bounds-mend_table-end c =
+    let q = lent c.args.c c.args.l0.now c.args.arena.now c.args.base.0 in
+    let s = sited q c.args.address.0 _ (sym c.in-At.ensures) in s.fits
 
 pub mend_table-requires : goal.mend_table-requires
 mend_table-requires c =
-    rw (add-sub_cancel_left _ _) (site_regions (start TODO{place s.before.before = After-table_named}).args.arena.now _ (at-site TODO{place s = After-s}))
+    let q = lent c.args.c c.args.l0.now c.args.arena.now c.args.base.0 in
+    rw (add-sub_cancel_left _ _) (site_regions c.args.arena.now _ (sited q c.args.address.0 _ (sym c.in-At.ensures)))
 
 pub returns-in-Refused : goal.returns-in-Refused
 returns-in-Refused c =
-    mend-refused (from TODO{place p = After-table_named}) (start TODO{place p = After-table_named}).args.address.0 (start TODO{place p = After-table_named}).args.limit _ (sym c.table_named.ensures ∙ c.in-Refused.is)
+    let q = lent c.args.c c.args.l0.now c.args.arena.now c.args.base.0 in
+    mend-refused q c.args.address.0 c.args.limit _ (sym c.in-Refused.ensures)
 
 pub returns-in-At : goal.returns-in-At
 returns-in-At c =
+    let q = lent c.args.c c.args.l0.now c.args.arena.now c.args.base.0 in
     rw (add-sub_cancel_left _ _)
-    (mend-in (from TODO{place p = After-table_named}) (start TODO{place p = After-table_named}).args.address.0 (start TODO{place p = After-table_named}).args.limit _ (there TODO{place s = After-s}) _ _
-    (rw (add-sub_cancel_left _ _) at c.mend_table.ensures))
-
--- TODO inline answer, goal by its place among table_named-requires, add-end, mul-mend_table, sub-mend_table, part-mend_table-start, part-mend_table-end, mend_table-requires, returns, returns-2
--- (λ c. let s = at-site c.before.before in omega (arith, s.fits, s.arena))
-
--- TODO inline answer, goal by its place among table_named-requires, add-end, mul-mend_table, sub-mend_table, part-mend_table-start, part-mend_table-end, mend_table-requires, returns, returns-2
--- (λ c. let s = at-site c.before.before in omega (arith, s.fits, s.arena))
-
--- TODO inline answer, goal by its place among table_named-requires, add-end, mul-mend_table, sub-mend_table, part-mend_table-start, part-mend_table-end, mend_table-requires, returns, returns-2
--- (λ c. (at-site c.before.before).fits)
+    (mend-in q c.args.address.0 c.args.limit _ (sym c.in-At.ensures) _ _ (rw (add-sub_cancel_left _ _) at c.mend_table.ensures))

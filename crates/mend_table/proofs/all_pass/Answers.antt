@@ -1,15 +1,9 @@
 -- Crate mend_table: `all_pass` meets its contract.
-use mathlib.Core.Path.{◌≡◌, sym, ◌∙◌}
-use Prim.Native.Nat.{◌+◌, ◌-◌, ◌≤◌}
+use mathlib.Core.Path.{sym, ◌∙◌}
+use Prim.Native.Nat.{◌-◌}
 use native.Mathlib.Omega.{arith}
-use Rattle.theory.specs.Normal.{at, every}
-use Rattle.l1.specs.Arm.{arm}
-use Rattle.mend_table.specs.Inner.{passed}
-use Rattle.mend_table.proofs.Lists.{scan-start, scan-more, scan-stop, scan-end}
+use Rattle.mend_table.proofs.Lists.{scan-more, scan-stop, scan-end}
 use Rattle.mend_table.proofs.all_pass.Goals as goal
-
-pub loop-i-init : goal.loop-i-init
-loop-i-init c = (omega arith, scan-start _ _ _)
 
 pub loop-i-preserved : goal.loop-i-preserved
 loop-i-preserved c =

@@ -1,11 +1,9 @@
 -- Crate mend_table: `all_pass` meets its contract.
-use mathlib.Core.Path.{◌≡◌, sym, ◌∙◌}
+use mathlib.Core.Path.{◌≡◌}
 use Prim.Native.Nat.{◌+◌, ◌-◌, ◌≤◌}
-use native.Mathlib.Omega.{arith}
 use Rattle.theory.specs.Normal.{at, every}
 use Rattle.l1.specs.Arm.{arm}
 use Rattle.mend_table.specs.Inner.{passed}
-use Rattle.mend_table.proofs.Lists.{scan-start, scan-more, scan-stop, scan-end}
 use Rattle.mend_table.proofs.all_pass.Given as goal
 
 abbrev pub invariant-loop-i : goal.invariant-loop-i

@@ -1,12 +1,11 @@
 -- Crate mend_table: `check_table` meets its contract.
 use Rattle.l1.specs.Arm.{arm}
-use Rattle.mend_table.proofs.Stretches.{regions_pos, whole_lies}
+use Rattle.mend_table.proofs.Stretches.{regions_pos}
 use Rattle.mend_table.proofs.Checks.{whole_checked}
-use borrow.Author.Rules.{rules}
 use Rattle.mend_table.proofs.check_table.Goals as goal
 
-pub parts-requires : goal.parts-requires
-parts-requires c = whole_lies c.requires c.span.ensures
+pub nonzero_div-m : goal.nonzero_div-m
+nonzero_div-m c = regions_pos c.requires c.span.ensures
 
 pub returns : goal.returns
 returns c = whole_checked arm c.requires c.span.ensures c.parts.ensures

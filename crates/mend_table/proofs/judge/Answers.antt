@@ -5,7 +5,6 @@ use Rattle.l1.proofs.Arm.{arm-laws, contig_arm}
 use Rattle.l1.proofs.Sizes.{level_down, level_none}
 use Rattle.mend_table.proofs.Stretches.{words_there}
 use Rattle.mend_table.proofs.Judging.{of_one, of_words, of_parts}
-use borrow.Author.Rules.{rules}
 use Rattle.mend_table.proofs.judge.Goals as goal
 
 pub one_gpi-requires : goal.one_gpi-requires

@@ -1,11 +1,10 @@
 -- Crate mend_table: `mend_table` meets its contract.
-use Rattle.mend_table.proofs.Stretches.{regions_pos, whole_lies}
+use Rattle.mend_table.proofs.Stretches.{regions_pos}
 use Rattle.mend_table.proofs.Walks.{whole_mended}
-use borrow.Author.Rules.{rules}
 use Rattle.mend_table.proofs.mend_table.Goals as goal
 
-pub mend_parts-requires : goal.mend_parts-requires
-mend_parts-requires c = whole_lies c.requires c.span.ensures
+pub nonzero_div-m : goal.nonzero_div-m
+nonzero_div-m c = regions_pos c.requires c.span.ensures
 
 pub returns : goal.returns
 returns c =

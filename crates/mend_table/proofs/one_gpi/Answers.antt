@@ -7,7 +7,6 @@ use Rattle.theory.specs.Normal.{at}
 use Rattle.l1.specs.Arm.{arm}
 use Rattle.l1.proofs.Arm.{arm-laws}
 use Rattle.mend_table.proofs.Single.{scanned, uneven, unknown}
-use borrow.Author.Rules.{rules}
 use Rattle.mend_table.proofs.one_gpi.Goals as goal
 
 pub returns-then-all_pass : goal.returns-then-all_pass

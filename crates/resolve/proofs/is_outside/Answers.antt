@@ -1,6 +1,5 @@
 -- `resolve::is_outside` meets its contract: of an arena in order the end fits.
 use native.Mathlib.Omega.{arith}
-use borrow.Author.Rules.{rules}
 use Rattle.resolve.proofs.Arena.{arena_fine, below, above}
 use Rattle.resolve.proofs.is_outside.Goals as goal
 

@@ -1,6 +1,5 @@
 -- `resolve::site_at` meets its contract: each field by the index rule of that name.
 use Prim.Native.Nat.{◌-◌, ◌/◌}
-use borrow.Author.Rules.{rules}
 use Rattle.resolve.specs.Place.{site_of}
 use Rattle.resolve.proofs.site_at.Goals as goal
 

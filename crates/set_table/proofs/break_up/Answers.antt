@@ -1,15 +1,12 @@
 -- `set_table::break_up` meets its contract: the shatter, then its barriers.
-use mathlib.Core.Path.{◌∙◌}
-use borrow.Author.Rules.{rules}
 use Rattle.l1.specs.Arm.{arm, level_of}
 use Rattle.l1.proofs.Arm.{level_lt}
 use Rattle.stores.proofs.Events.{after}
 use Rattle.set_table.proofs.Breaks.{shatter-room, barriers-room}
 use Rattle.set_table.proofs.break_up.Goals as goal
 
-pub shatter_contig-a-requires : goal.shatter_contig-a-requires
-shatter_contig-a-requires c =
-    (c.requires.placed, shatter-room arm c.args.q.unit (level_of c.args.size) (level_lt c.args.size) c.requires.room)
+pub shatter_contig-a-requires-clause-room : goal.shatter_contig-a-requires-clause-room
+shatter_contig-a-requires-clause-room c = shatter-room arm c.args.q.unit (level_of c.args.size) (level_lt c.args.size) c.requires.room
 
 pub barriers-requires : goal.barriers-requires
 barriers-requires c =

@@ -1,57 +1,38 @@
 -- `set_table::can_fuse` meets its contract. The loop keeps that what is left says the same as the whole.
-use mathlib.Core.Path.{◌≡◌, sym, ap, ◌∙◌}
-use Prim.Native.Nat.{ℕ, ◌+◌, ◌-◌, ◌≤◌}
-use native.Mathlib.Nat.{div-mul-le_self, le_refl, add-sub_cancel_left}
+use mathlib.Core.Path.{◌≡◌, sym, ◌∙◌}
+use Prim.Native.Nat.{ℕ, ◌+◌, ◌-◌, ◌<◌, ◌^◌}
 use native.Mathlib.Omega.{arith}
-use borrow.Author.Rules.{rules}
+use Rattle.gpi.specs.declared.Gpi.{Gpi}
 use Rattle.gpi.specs.Gpi.{num}
-use Rattle.theory.specs.declared.Scan.{Scan}
-use Rattle.theory.specs.Normal.{at, base}
 use Rattle.theory.specs.Set.{scan}
 use Rattle.l1.specs.declared.Match.{Match}
+use Rattle.l1.specs.L1.{match_at}
 use Rattle.l1.specs.Arm.{arm}
 use Rattle.set_table.proofs.Scans.{next, scan-at, scan-end}
 use Rattle.set_table.proofs.can_fuse.Goals as goal
 
--- n words from k on, and the range
-abbrev from : tie.Start invariant-loop decreases-loop → ℕ → ℕ → Scan
-from s k n = scan arm (at s.args.table.now) (num s.args.g) k n
-
-abbrev low : tie.Start invariant-loop decreases-loop → ℕ
-low s = base s.args.words s.args.index
-
--- what the whole scan sees, by the word at k and what is after it
-sees : (c : tie.After-matches-gpi invariant-loop decreases-loop) (m : Match) → c.matches-gpi.result ≡ m →
-    let l = c.before.before.before in
-    let s = l.before.before in
-    from s (low s) s.args.words ≡ next l.loop.k m (from s (l.loop.k + 1) (low s + s.args.words - l.loop.k - 1))
-sees c m e =
-    let l = c.before.before.before in
-    let s = l.before.before in
-    l.loop.invariant.2
-    ∙ scan-at _ _ l.loop.k (low s + s.args.words - l.loop.k) (omega arith)
-    (c.before.shared-slice-known2.given l.loop.k).fits m (sym e ∙ c.matches-gpi.ensures)
-
-pub overflow_mul-k : goal.overflow_mul-k
-overflow_mul-k c = omega (arith, div-mul-le_self c.args.index c.args.words)
-
-pub loop-k-init : goal.loop-k-init
-loop-k-init c =
-    (le_refl _, omega arith, ap (from TODO{place s = Start} (low TODO{place s = Start})) (sym (add-sub_cancel_left (low TODO{place s = Start}) c.args.words)))
+-- what the whole scan sees, n words from a, by the word at k and what is after it
+sees : (r : ℕ → ℕ) (g : Gpi) (a n k : ℕ) → k < a + n → r k < 2 ^ 64
+    → scan arm r (num g) a n ≡ scan arm r (num g) k (a + n - k) → (m : Match) → m ≡ match_at (r k) g
+    → scan arm r (num g) a n ≡ next k m (scan arm r (num g) (k + 1) (a + n - (k + 1)))
+sees r g a n k h f whole m e =
+    let d : a + n - (k + 1) ≡ a + n - k - 1 = omega arith in
+    rw d (whole ∙ scan-at r g k (a + n - k) (omega arith) f m e)
 
 pub loop-k-preserved : goal.loop-k-preserved
-loop-k-preserved c =
-    let n : ℕ = low TODO{place l.before.before = Start} + c.args.words in
-    let e : n - (c.loop-k.k + 1) ≡ n - c.loop-k.k - 1 = omega arith in
-    (omega arith, omega arith, rw e (sees TODO{place c.before.before = After-matches_gpi} _ c.in-Same.is))
+loop-k-preserved c = (
+  omega arith,
+  omega arith,
+  sees _ c.args.g _ c.args.words c.loop-k.k c.loop-k-test.true (c.type_inv.table c.loop-k.k).fits c.loop-k.invariant.2 _ c.in-Same.ensures,
+)
 
 pub returns-in-Other : goal.returns-in-Other
-returns-in-Other c = sym (sees TODO{place c.before.before = After-matches_gpi} _ c.in-Other.is)
+returns-in-Other c =
+    sym (sees _ c.args.g _ c.args.words c.loop-k.k c.loop-k-test.true (c.type_inv.table c.loop-k.k).fits c.loop-k.invariant.2 _ c.in-Other.ensures)
 
 pub returns-in-Bad : goal.returns-in-Bad
-returns-in-Bad c = sym (sees TODO{place c.before.before = After-matches_gpi} _ c.in-Bad.is)
+returns-in-Bad c =
+    sym (sees _ c.args.g _ c.args.words c.loop-k.k c.loop-k-test.true (c.type_inv.table c.loop-k.k).fits c.loop-k.invariant.2 _ c.in-Bad.ensures)
 
 pub returns : goal.returns
-returns c =
-    let l = c.loop-k in
-    sym (l.invariant.2 ∙ scan-end _ c.args.g l.k (low TODO{place s = Start} + c.args.words - l.k) (omega arith))
+returns c = sym (c.loop-k.invariant.2 ∙ scan-end _ c.args.g c.loop-k.k _ (omega arith))

@@ -1,16 +1,10 @@
 -- `set_table::can_fuse` meets its contract. The loop keeps that what is left says the same as the whole.
-use mathlib.Core.Path.{◌≡◌, sym, ap, ◌∙◌}
-use Prim.Native.Nat.{ℕ, ◌+◌, ◌-◌, ◌≤◌}
-use native.Mathlib.Nat.{div-mul-le_self, le_refl, add-sub_cancel_left}
-use native.Mathlib.Omega.{arith}
-use borrow.Author.Rules.{rules}
+use mathlib.Core.Path.{◌≡◌}
+use Prim.Native.Nat.{◌+◌, ◌-◌, ◌≤◌}
 use Rattle.gpi.specs.Gpi.{num}
-use Rattle.theory.specs.declared.Scan.{Scan}
 use Rattle.theory.specs.Normal.{at, base}
 use Rattle.theory.specs.Set.{scan}
-use Rattle.l1.specs.declared.Match.{Match}
 use Rattle.l1.specs.Arm.{arm}
-use Rattle.set_table.proofs.Scans.{next, scan-at, scan-end}
 use Rattle.set_table.proofs.can_fuse.Given as goal
 
 abbrev pub invariant-loop-k : goal.invariant-loop-k

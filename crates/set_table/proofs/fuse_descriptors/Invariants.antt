@@ -1,18 +1,11 @@
 -- `set_table::fuse_descriptors` meets its contract. The loop keeps that the levels left say the same as all of them.
-use mathlib.Core.Path.{◌≡◌, refl, sym, ◌∙◌}
-use Prim.Native.Nat.{ℕ, ◌+◌, ◌-◌, ◌≤◌}
-use native.Mathlib.Numerals.{add-one}
-use native.Mathlib.Omega.{arith}
-use borrow.Author.Rules.{rules}
+use mathlib.Core.Path.{◌≡◌}
+use Prim.Native.Nat.{◌-◌, ◌≤◌}
 use Rattle.gpi.specs.Gpi.{num}
-use Rattle.theory.specs.declared.Scan.{Scan}
-use Rattle.theory.specs.declared.Fused.{Fused}
-use Rattle.theory.specs.declared.Fused.TheVariants.{Nowhere, Level}
+use Rattle.theory.specs.declared.Fused.TheVariants.{Nowhere}
 use Rattle.theory.specs.Normal.{at, span}
-use Rattle.theory.specs.Set.{on_scan, climb}
+use Rattle.theory.specs.Set.{climb}
 use Rattle.l1.specs.Arm.{arm}
-use Rattle.set_table.proofs.Places.{Lies, lies}
-use Rattle.set_table.proofs.Scans.{climb-at, climb-end}
 use Rattle.set_table.proofs.fuse_descriptors.Given as goal
 
 abbrev pub invariant-loop-level : goal.invariant-loop-level

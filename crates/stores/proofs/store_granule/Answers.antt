@@ -3,7 +3,6 @@ use mathlib.Core.Path.{refl}
 use Rattle.theory.specs.Stores.{apply}
 use Rattle.theory.specs.Events.{granule}
 use Rattle.stores.proofs.Events.{one}
-use borrow.Author.Rules.{rules}
 use Rattle.stores.proofs.store_granule.Goals as goal
 
 pub returns : goal.returns
