@@ -1,5 +1,7 @@
 // The C interface: docs/ABI.md. Each call packs what its call of `gpt` or `mend` answers into one number; what it leaves is what that leaves.
 // `abi_c` exports them.
+#![tactic(auto)]
+
 ghost use Rattle.std.specs.Prelude.{◌≡◌, ◌+◌, ◌*◌, ◌≤◌};
 ghost use Rattle.abi.specs.Packed.{looked_packed, changed_packed, mended_packed, checked_packed};
 ghost use Rattle.abi.specs.Inner.{Small, Few};

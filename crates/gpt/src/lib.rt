@@ -1,4 +1,6 @@
 // The calls of the granule protection table. From gpt.rs: `GranuleProtection`, with what it holds passed as arguments.
+#![tactic(auto)]
+
 ghost use Rattle.std.specs.Prelude.{◌≡◌, List, ℕ, ◌≤◌, ◌<◌, length, get_or};
 ghost use Rattle.l1.specs.L1.{read_at};
 ghost use Rattle.config.specs.declared.Config.{Config};

@@ -1,5 +1,7 @@
 // `view`: a read-only view of an L1 table, the caller's words and the granule width, with thin readers over functions of the words. In the
 // place of table.rs's `GranuleDescriptorRef`. An address is told by its distance in bytes from the table's first.
+#![tactic(auto)]
+
 ghost use Rattle.std.specs.Prelude.{◌≡◌, ◌<◌};
 ghost use Rattle.l1.specs.L1.{read_at};
 ghost use Rattle.view.specs.Reads.{is_width, spot_of, seen_at, held_by, held_at};

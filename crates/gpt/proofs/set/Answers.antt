@@ -11,8 +11,8 @@ use Rattle.gpt.proofs.set.Goals as goal
 pub set_site-requires : goal.set_site-requires
 set_site-requires c =
     let k = resolved (ask_of (lent c.args.c c.args.l0.now c.args.arena.now c.args.base.0)
-        (Set (length c.args.log.now) c.gpi_of-n.result) c.args.address.0) _ _
-        (sym c.resolve.ensures ∙ c.in-Table.is) in
+    (Set (length c.args.log.now) c.gpi_of-n.result) c.args.address.0) _ _
+    (sym c.resolve.ensures ∙ c.in-Table.is) in
     record { sited = k.1.sited; in_bounds = ltb-false _ _ k.1.passed.long }
 
 pub returns-in-Refused : goal.returns-in-Refused
