@@ -41,7 +41,7 @@ build_oracle() {
 
 # build_port: the archive of the proved port
 build_port() {
-    rt staticlib abi > "$OUT/port.log" 2>&1 || { cat "$OUT/port.log"; return 1; }
+    compare/archive > "$OUT/port.log" 2>&1 || { cat "$OUT/port.log"; return 1; }
 }
 
 # build_harness: links the archive; the oracle is found at run time, so that one harness runs against each of its builds

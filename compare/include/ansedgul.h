@@ -1,4 +1,4 @@
-/* The C interface of the granule protection library: docs/ABI.md. Link target/staticlib/libabi.a, which `rt staticlib abi` makes.
+/* The C interface of the granule protection library: docs/ABI.md. Link target/staticlib/libabi.a, which `compare/archive` makes.
  * A slice passes as a pointer and a length in words of 64 bits. No two of the slices that one call is lent may overlap, as far as one of them is
  * written. Every function is proved for every input: none has a precondition besides that the slices are there. */
 #ifndef ANSEDGUL_H

@@ -1,4 +1,7 @@
-// The C interface: docs/ABI.md. Each export packs what its call answers into one number; what it leaves is what the call leaves.
+// The C interface: docs/ABI.md. Each call packs what its call of `gpt` or `mend` answers into one number; what it leaves is what that leaves.
+// `abi_c` exports them.
+#![tactic(auto)]
+
 ghost use Rattle.std.specs.Prelude.{◌≡◌, ◌+◌, ◌*◌, ◌≤◌};
 ghost use Rattle.abi.specs.Packed.{looked_packed, changed_packed, mended_packed, checked_packed};
 ghost use Rattle.abi.specs.Inner.{Small, Few};
@@ -66,8 +69,7 @@ pub fn pack_checked(k: Checked) -> u64
 }
 
 // The GPI of an address.
-#[unsafe(no_mangle)]
-pub extern "C" fn gpt_lookup(
+pub fn gpt_lookup(
     pps: u8,
     pgs: u8,
     l0gptsz: u8,
@@ -85,8 +87,7 @@ pub extern "C" fn gpt_lookup(
 }
 
 // The granule of an address given to another world.
-#[unsafe(no_mangle)]
-pub extern "C" fn gpt_set(
+pub fn gpt_set(
     pps: u8,
     pgs: u8,
     l0gptsz: u8,
@@ -106,8 +107,7 @@ pub extern "C" fn gpt_set(
 }
 
 // The L1 table of an address made normal, at most so many words of it.
-#[unsafe(no_mangle)]
-pub extern "C" fn gpt_mend(
+pub fn gpt_mend(
     pps: u8,
     pgs: u8,
     l0gptsz: u8,
@@ -126,8 +126,7 @@ pub extern "C" fn gpt_mend(
 }
 
 // Whether the L1 table of an address is normal.
-#[unsafe(no_mangle)]
-pub extern "C" fn gpt_check(
+pub fn gpt_check(
     pps: u8,
     pgs: u8,
     l0gptsz: u8,

@@ -4,7 +4,6 @@ use Rattle.config.specs.declared.Config.{Config}
 use Rattle.mend.specs.Outcome.{check_of}
 use Rattle.abi.specs.Packed.{checked_packed}
 use Rattle.resolve.specs.Lent.{lent}
-use borrow.Author.Rules.{rules}
 use Rattle.abi.proofs.gpt_check.Goals as goal
 
 pub returns : goal.returns

@@ -4,7 +4,6 @@ use Rattle.config.specs.declared.Config.{Config}
 use Rattle.gpt.specs.Lookup.{lookup_of}
 use Rattle.abi.specs.Packed.{looked_packed}
 use Rattle.resolve.specs.Lent.{lent}
-use borrow.Author.Rules.{rules}
 use Rattle.abi.proofs.gpt_lookup.Goals as goal
 
 pub returns : goal.returns

@@ -1,6 +1,5 @@
 -- `abi::gpt_mend` meets its contract: the call's answer, packed, with the arena that it leaves; its count is small.
 use mathlib.Core.Path.{ap, ◌∙◌}
-use borrow.Author.Rules.{rules}
 use Rattle.abi.proofs.Few.{mend-small}
 use Rattle.abi.specs.Packed.{mended_packed}
 use Rattle.abi.proofs.gpt_mend.Goals as goal

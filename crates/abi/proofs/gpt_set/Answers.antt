@@ -1,5 +1,4 @@
 -- `abi::gpt_set` meets its contract: the call's answer, packed, with the arena and the log that it leaves; its counts are small.
-use borrow.Author.Rules.{rules}
 use mathlib.Core.Path.{ap, ◌∙◌}
 use Rattle.abi.proofs.Few.{set-small}
 use Rattle.abi.specs.Packed.{changed_packed}

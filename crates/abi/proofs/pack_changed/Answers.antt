@@ -1,5 +1,4 @@
 -- `abi::pack_changed` meets its contract, by the small counts that it asks.
-use borrow.Author.Rules.{rules}
 use native.Mathlib.Omega.{arith}
 use Rattle.abi.specs.Packed.{changed_packed}
 use Rattle.abi.proofs.pack_changed.Goals as goal

@@ -1,6 +1,5 @@
 -- `abi::pack_checked` meets its contract: each arm is told which answer it is.
 use native.Mathlib.Omega.{arith}
-use borrow.Author.Rules.{rules}
 use Rattle.abi.specs.Packed.{checked_packed}
 use Rattle.abi.proofs.pack_checked.Goals as goal
 

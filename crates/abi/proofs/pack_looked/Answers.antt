@@ -1,5 +1,4 @@
 -- `abi::pack_looked` meets its contract: a GPI is below 16, so the product fits.
-use borrow.Author.Rules.{rules}
 use native.Mathlib.Omega.{arith}
 use Rattle.gpi.proofs.Rules.{num-lt}
 use Rattle.abi.specs.Packed.{looked_packed}

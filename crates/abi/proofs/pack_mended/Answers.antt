@@ -1,6 +1,5 @@
 -- `abi::pack_mended` meets its contract: by the small count that it asks, the product fits.
 use native.Mathlib.Omega.{arith}
-use borrow.Author.Rules.{rules}
 use Rattle.abi.specs.Packed.{mended_packed}
 use Rattle.abi.proofs.pack_mended.Goals as goal
 
