@@ -1,6 +1,5 @@
 // The dump of many small images, each a file of data/ that images/make made of a text in images/. The buffer has room for one line or two,
 // so that each text comes in many chunks. Crate `dumps`.
-
 #![tactic(auto)]
 
 use std::rt::Files;
