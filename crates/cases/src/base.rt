@@ -4,6 +4,7 @@ ghost use Rattle.std.specs.Prelude.{◌≡◌, ◌≤◌, length};
 use config::Config;
 use gpt::{Changed, Looked};
 use pa::PA;
+use std::io;
 
 // Base arrangement B, with L0GPTSZ and GPC as a case asks.
 pub fn fields(l0gptsz: u8, gpc: bool) -> Config {
@@ -28,27 +29,39 @@ pub fn log() -> [u64; 52]
     [7; 52]
 }
 
-pub fn word(text: &[u8], n: u64) {
-    io::write_all(1, text);
-    io::print_decimal(1, n);
+pub fn word(rt: &impl Print, text: &str, n: u64) -> io::Result<()> {
+    print!(rt; "{text}{n}")
 }
 
 // A lookup: its number, and its GPI where there is one.
-pub fn looked(name: &[u8], c: Config, arena: &[u64], address: u64) {
+pub fn looked(
+    rt: &impl Print,
+    name: &str,
+    c: Config,
+    arena: &[u64],
+    address: u64,
+) -> io::Result<()> {
     let l0 = l0();
-    word(name, address);
+    word(rt, name, address)?;
     match gpt::lookup(c, &l0, arena, PA(0x8000_0000), PA(address)) {
-        Looked::Ok(g) => word(b": 0, GPI ", gpi::number(g)),
-        Looked::Refused(r) => word(b": ", resolve::refusal_number(r)),
+        Looked::Ok(g) => word(rt, ": 0, GPI ", gpi::number(g))?,
+        Looked::Refused(r) => word(rt, ": ", resolve::refusal_number(r))?,
     }
-    io::write_all(1, b"\n");
+    println!(rt)
 }
 
 // A set at 0x40000000 or elsewhere: its number and its counts.
-pub fn changed(name: &[u8], arena: &mut [u64], log: &mut [u64], address: u64, gpi: u64) {
+pub fn changed(
+    rt: &impl Print,
+    name: &str,
+    arena: &mut [u64],
+    log: &mut [u64],
+    address: u64,
+    gpi: u64,
+) -> io::Result<()> {
     let l0 = l0();
-    word(name, address);
-    word(b" to ", gpi);
+    word(rt, name, address)?;
+    word(rt, " to ", gpi)?;
     match gpt::set(
         fields(0, true),
         &l0,
@@ -59,16 +72,16 @@ pub fn changed(name: &[u8], arena: &mut [u64], log: &mut [u64], address: u64, gp
         gpi,
     ) {
         Changed::Done(t) => {
-            word(b": 0, stores ", t.stores as u64);
-            word(b", records ", t.records as u64);
+            word(rt, ": 0, stores ", t.stores as u64)?;
+            word(rt, ", records ", t.records as u64)?;
         }
         Changed::Stopped(t) => {
-            word(b": 10, stores ", t.stores as u64);
-            word(b", records ", t.records as u64);
+            word(rt, ": 10, stores ", t.stores as u64)?;
+            word(rt, ", records ", t.records as u64)?;
         }
-        Changed::Refused(r) => word(b": ", resolve::refusal_number(r)),
+        Changed::Refused(r) => word(rt, ": ", resolve::refusal_number(r))?,
     }
-    io::write_all(1, b"\n");
+    println!(rt)
 }
 
 // 1 if the word at k is this one.
@@ -99,9 +112,9 @@ pub fn put(words: &mut [u64], k: usize, w: u64) {
     words[k] = w;
 }
 
-pub fn part(words: &[u64], a: usize, e: usize, w: u64) {
-    word(b"  words ", a as u64);
-    word(b" up to ", e as u64);
-    word(b" as said: ", alike(words, a, e, w));
-    io::write_all(1, b"\n");
+pub fn part(rt: &impl Print, words: &[u64], a: usize, e: usize, w: u64) -> io::Result<()> {
+    word(rt, "  words ", a as u64)?;
+    word(rt, " up to ", e as u64)?;
+    word(rt, " as said: ", alike(words, a, e, w))?;
+    println!(rt)
 }

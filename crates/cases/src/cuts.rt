@@ -6,6 +6,7 @@ use crate::base;
 use gpt::Looked;
 use mend::Mended;
 use pa::PA;
+use std::io;
 
 fn get(words: &[u64], k: usize) -> u64 {
     if words.len() <= k {
@@ -157,13 +158,14 @@ fn all_cuts(log: &[u64]) -> u64 {
     n
 }
 
-pub fn run() {
+pub fn run(rt: &impl Print) -> io::Result<()> {
     let mut a = base::arena();
     let mut l = base::log();
-    base::changed(b"C7 to be cut: set ", &mut a, &mut l, 0x4000_0000, 11);
+    base::changed(rt, "C7 to be cut: set ", &mut a, &mut l, 0x4000_0000, 11)?;
     base::word(
-        b"  of 514 cuts, with 16384 lookups and 34 mends each, as demanded: ",
+        rt,
+        "  of 514 cuts, with 16384 lookups and 34 mends each, as demanded: ",
         all_cuts(&l),
-    );
-    io::write_all(1, b"\n");
+    )?;
+    println!(rt)
 }

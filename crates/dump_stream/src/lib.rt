@@ -1,21 +1,25 @@
-// The dump of an image read from a file, written to a file chunk after chunk. Added by the port. Crate `dump_stream`.
-ghost use Rattle.std.specs.Prelude.{◌≡◌, length};
+// The dump of an image read from a reader, written to a writer chunk after chunk. Added by the port. Crate `dump_stream`.
+#![tactic(auto)]
 
-// The dump of an image, through a lent buffer; whether all of it was written. It ends early where the file takes no more, or where the
-// buffer has no room for a line, which is never longer than 47 bytes.
-pub fn print(file: i32, image: &[u8], out: &mut [u8]) -> bool {
+ghost use Rattle.std.specs.Prelude.{◌≡◌, length};
+ghost use Rattle.std.specs.Io.{ReadsAtMost};
+
+use std::io;
+use std::io::{Read, Write};
+
+// The dump of an image, through a lent buffer; whether all of it was written. It ends early where the buffer has no room for a line, which is
+// never longer than 47 bytes. A write that fails is its error.
+pub fn print<W: Write>(file: &mut W, image: &[u8], out: &mut [u8]) -> io::Result<bool> {
     let mut at: u64 = 0;
     loop {
         let c = dump_text::dump_chunk(image, at, out);
         let n = c.written;
-        if !io::write_all(file, &out[..n]) {
-            return false;
-        }
+        file.write_all(&out[..n])?;
         if c.done {
-            return true;
+            return Ok(true);
         }
         if c.next <= at {
-            return false;
+            return Ok(false);
         }
         at = c.next;
     }
@@ -28,9 +32,24 @@ fn room() -> [u8; 33306]
     [0; 33306]
 }
 
-// The dump of the image in a file, through a lent buffer; whether all of it was written.
-pub fn show(from: i32, to: i32, out: &mut [u8]) -> bool {
+// Reads until the buffer is full or the input ends: how many bytes stand at its start.
+fn read_full<R: Read>(from: &mut R, buf: &mut [u8]) -> io::Result<usize>
+    ensures { ReadsAtMost result buf.new }
+{
+    let mut done = 0;
+    while done < buf.len() {
+        let n = from.read(&mut buf[done..])?;
+        if n == 0 {
+            break;
+        }
+        done += n;
+    }
+    Ok(done)
+}
+
+// The dump of the image that a reader gives, through a lent buffer; whether all of it was written. A read or write that fails is its error.
+pub fn show<R: Read, W: Write>(from: &mut R, to: &mut W, out: &mut [u8]) -> io::Result<bool> {
     let mut image = room();
-    let n = io::read_full(from, &mut image);
+    let n = read_full(from, &mut image)?;
     print(to, &image[..n], out)
 }

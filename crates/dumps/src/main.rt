@@ -1,94 +1,97 @@
 // The dump of many small images, each a file of data/ that images/make made of a text in images/. The buffer has room for one line or two,
 // so that each text comes in many chunks. Crate `dumps`.
+#![tactic(auto)]
+
+use std::rt::Files;
+use std::{fs, io};
 
 // An image's name on a line, and its dump.
-fn show(path: &[u8]) {
-    let f = os::open_read(path);
-    if f < 0 {
-        os::fail(path);
-        return;
-    }
-    io::write_all(1, path);
-    io::write_all(1, b"\n");
+fn show(rt: &(impl Files + Print + Eprint), path: &str) -> io::Result<()> {
+    let mut f = match fs::open(rt, path) {
+        Ok(f) => f,
+        Err(e) => return eprintln!(rt; "{path}: {e}"),
+    };
+    println!(rt; "{path}")?;
+    let mut to = io::writer(rt);
     let mut out = [0u8; 99];
-    if !dump_stream::show(f, 1, &mut out) {
-        io::write_all(1, b"not whole\n");
+    if !dump_stream::show(&mut f, &mut to, &mut out)? {
+        println!(rt; "not whole")?;
     }
-    libc::close(f);
+    Ok(())
 }
 
-fn versions() {
-    show(b"empty.gpt");
-    show(b"version_0.gpt");
-    show(b"version_2.gpt");
+fn versions(rt: &(impl Files + Print + Eprint)) -> io::Result<()> {
+    show(rt, "empty.gpt")?;
+    show(rt, "version_0.gpt")?;
+    show(rt, "version_2.gpt")
 }
 
-fn shorts() {
-    show(b"version_only.gpt");
-    show(b"head_cut.gpt");
-    show(b"word_cut.gpt");
-    show(b"no_words.gpt");
-    show(b"short_and_long.gpt");
+fn shorts(rt: &(impl Files + Print + Eprint)) -> io::Result<()> {
+    show(rt, "version_only.gpt")?;
+    show(rt, "head_cut.gpt")?;
+    show(rt, "word_cut.gpt")?;
+    show(rt, "no_words.gpt")?;
+    show(rt, "short_and_long.gpt")
 }
 
-fn counts() {
-    show(b"l0_65.gpt");
-    show(b"arena_4097.gpt");
-    show(b"counts_most.gpt");
+fn counts(rt: &(impl Files + Print + Eprint)) -> io::Result<()> {
+    show(rt, "l0_65.gpt")?;
+    show(rt, "arena_4097.gpt")?;
+    show(rt, "counts_most.gpt")
 }
 
-fn lengths() {
-    show(b"length_53.gpt");
-    show(b"length_most.gpt");
-    show(b"byte_more.gpt");
-    show(b"bad_and_off.gpt");
-    show(b"largest_more.gpt");
-    show(b"largest_much_more.gpt");
+fn lengths(rt: &(impl Files + Print + Eprint)) -> io::Result<()> {
+    show(rt, "length_53.gpt")?;
+    show(rt, "length_most.gpt")?;
+    show(rt, "byte_more.gpt")?;
+    show(rt, "bad_and_off.gpt")?;
+    show(rt, "largest_more.gpt")?;
+    show(rt, "largest_much_more.gpt")
 }
 
-fn fields() {
-    show(b"pps_7.gpt");
-    show(b"pgs_3.gpt");
-    show(b"l0gptsz_1.gpt");
-    show(b"widths.gpt");
-    show(b"off.gpt");
+fn fields(rt: &(impl Files + Print + Eprint)) -> io::Result<()> {
+    show(rt, "pps_7.gpt")?;
+    show(rt, "pgs_3.gpt")?;
+    show(rt, "l0gptsz_1.gpt")?;
+    show(rt, "widths.gpt")?;
+    show(rt, "off.gpt")
 }
 
-fn lent() {
-    show(b"few.gpt");
-    show(b"pps_6.gpt");
-    show(b"base_odd.gpt");
-    show(b"base_high.gpt");
-    show(b"base_most.gpt");
+fn lent(rt: &(impl Files + Print + Eprint)) -> io::Result<()> {
+    show(rt, "few.gpt")?;
+    show(rt, "pps_6.gpt")?;
+    show(rt, "base_odd.gpt")?;
+    show(rt, "base_high.gpt")?;
+    show(rt, "base_most.gpt")
 }
 
-fn blocks() {
-    show(b"b.gpt");
-    show(b"largest.gpt");
-    show(b"top.gpt");
-    show(b"surplus.gpt");
-    show(b"gpis.gpt");
-    show(b"plain.gpt");
-    show(b"features.gpt");
+fn blocks(rt: &(impl Files + Print + Eprint)) -> io::Result<()> {
+    show(rt, "b.gpt")?;
+    show(rt, "largest.gpt")?;
+    show(rt, "top.gpt")?;
+    show(rt, "surplus.gpt")?;
+    show(rt, "gpis.gpt")?;
+    show(rt, "plain.gpt")?;
+    show(rt, "features.gpt")
 }
 
-fn tables() {
-    show(b"kinds.gpt");
-    show(b"granules_4k.gpt");
-    show(b"granules_16k.gpt");
-    show(b"granules_64k.gpt");
-    show(b"offset.gpt");
-    show(b"merged.gpt");
-    show(b"wide.gpt");
+fn tables(rt: &(impl Files + Print + Eprint)) -> io::Result<()> {
+    show(rt, "kinds.gpt")?;
+    show(rt, "granules_4k.gpt")?;
+    show(rt, "granules_16k.gpt")?;
+    show(rt, "granules_64k.gpt")?;
+    show(rt, "offset.gpt")?;
+    show(rt, "merged.gpt")?;
+    show(rt, "wide.gpt")
 }
 
-fn main() {
-    versions();
-    shorts();
-    counts();
-    lengths();
-    fields();
-    lent();
-    blocks();
-    tables();
+fn main(rt: HostRuntime) -> io::Result<()> {
+    versions(&rt)?;
+    shorts(&rt)?;
+    counts(&rt)?;
+    lengths(&rt)?;
+    fields(&rt)?;
+    lent(&rt)?;
+    blocks(&rt)?;
+    tables(&rt)
 }

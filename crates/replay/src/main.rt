@@ -1,7 +1,12 @@
 // Replays the Rust's answers: standard input is the list that compare/ wrote (README.md), each request goes to the port by its C interface,
 // and answer, GPI, barriers and every arena word are held to what the Rust did. So the gate compares with the Rust, and needs none. Nothing
 // is taken on trust of the list: a number that doesn't fit what is here counts as a difference.
+#![tactic(auto)]
+
 mod parts;
+
+use std::io;
+use std::io::Read;
 
 // What the records said so far.
 #[derive(Clone, Copy)]
@@ -198,17 +203,23 @@ fn step(
     wrong(s)
 }
 
-fn report(s: State) {
-    io::print_decimal(1, s.asked);
-    io::write_all(1, b" replayed, ");
-    io::print_decimal(1, s.differ);
-    io::write_all(1, b" differ\n");
+fn report(rt: &impl Print, s: State) -> io::Result<()> {
+    let asked = s.asked;
+    let differ = s.differ;
+    println!(rt; "{asked} replayed, {differ} differ")
 }
 
 // The whole list: its first record says how many follow.
-fn replay(l0: &mut [u64], arena: &mut [u64], want: &mut [u64], log: &mut [u64]) {
+fn replay(
+    rt: &impl Print,
+    list: &mut impl Read,
+    l0: &mut [u64],
+    arena: &mut [u64],
+    want: &mut [u64],
+    log: &mut [u64],
+) -> io::Result<()> {
     let mut record = [0u8; 32];
-    io::read_full(0, &mut record);
+    parts::read_record(list, &mut record)?;
     let mut left = parts::word(&record, 1);
     let mut s = State {
         fields: 0,
@@ -223,9 +234,8 @@ fn replay(l0: &mut [u64], arena: &mut [u64], want: &mut [u64], log: &mut [u64]) 
     };
     while 0 < left {
         left -= 1;
-        if io::read_full(0, &mut record) < 32 {
-            io::write_all(1, b"the list is cut short\n");
-            return;
+        if !parts::read_record(list, &mut record)? {
+            return println!(rt; "the list is cut short");
         }
         let head = parts::word(&record, 0);
         let a = parts::word(&record, 1);
@@ -233,7 +243,7 @@ fn replay(l0: &mut [u64], arena: &mut [u64], want: &mut [u64], log: &mut [u64]) 
         let c = parts::word(&record, 3);
         s = step(l0, arena, want, log, s, head, a, b, c);
     }
-    report(s);
+    report(rt, s)
 }
 
 // Room for the words: a function of its own, so that no proof writes them out.
@@ -245,10 +255,11 @@ fn arena_room() -> [u64; 16384] {
     [0; 16384]
 }
 
-fn main() {
+fn main(rt: HostRuntime) -> io::Result<()> {
+    let mut list = rt.stdin();
     let mut l0 = l0_room();
     let mut arena = arena_room();
     let mut want = arena_room();
     let mut log = [0u64; 52];
-    replay(&mut l0, &mut arena, &mut want, &mut log);
+    replay(&rt, &mut list, &mut l0, &mut arena, &mut want, &mut log)
 }

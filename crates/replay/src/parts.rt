@@ -1,5 +1,17 @@
 // Words, records and logs, as far as the list asks of them.
 
+use std::io;
+use std::io::{ErrorKind, Read};
+
+// The next record of the list: whether it is whole. Of one that is cut short, what there is stands at its start.
+pub fn read_record(list: &mut impl Read, record: &mut [u8; 32]) -> io::Result<bool> {
+    match list.read_exact(record) {
+        Ok(()) => Ok(true),
+        Err(e) if e.kind() == ErrorKind::UnexpectedEof => Ok(false),
+        Err(e) => Err(e),
+    }
+}
+
 fn wide(b: u8) -> u64 {
     b as u64
 }
