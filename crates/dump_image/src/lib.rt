@@ -140,6 +140,7 @@ pub fn parse_front(s: &[u8]) -> Read
 }
 
 // The image of some bytes, or its first fault: bytes after it are one.
+#[tactic(auto, using(std::proofs::lemmas::Bool::Decides::nat_tests), unfolding(crate::specs::Image::read_of))]
 pub fn parse(s: &[u8]) -> Read
     ensures { result ≡ read_of s.now }
 {

@@ -23,6 +23,7 @@ pub fn all_valid(w: u64) -> bool
 }
 
 // Whether all sixteen nibbles are this GPI.
+#[tactic(auto, using(std::proofs::lemmas::Bool::Decides::nat_tests, crate::proofs::Digits::walk_miss))]
 pub fn all_gpi(w: u64, g: Gpi) -> bool
     ensures { result ≡ all (eqb (num g)) (nibs 16 w) }
 {

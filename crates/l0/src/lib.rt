@@ -42,6 +42,7 @@ pub fn block(g: Gpi) -> u64
 }
 
 // The L0 table word of an address, which must be a multiple of 4,096 below 2^52: the Rust asserts it.
+#[tactic(auto, using(std::proofs::lemmas::Bool::Decides::nat_tests), unfolding(crate::specs::L0::table_word_of))]
 pub fn table(a: PA) -> TableWord
     ensures { result ≡ table_word_of a.0 }
 {

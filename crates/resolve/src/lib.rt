@@ -57,6 +57,7 @@ pub enum Call {
 const TOP: u64 = 0x10_0000_0000_0000;
 
 // Whether the arena is out of order. Its end is never computed before it is known to be in order, so nothing wraps.
+#[tactic(auto, using(std::proofs::lemmas::Bool::Decides::nat_tests), unfolding(crate::specs::Refusals::arena_bad))]
 pub fn arena_bad(base: PA, words: usize) -> bool
     ensures { result ≡ arena_bad base.0 words }
 {

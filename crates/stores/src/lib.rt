@@ -30,6 +30,7 @@ fn log_record(log: &mut [u64], n: usize, kind: u64, a: u64, b: u64, c: u64)
 }
 
 // The word, count times upward from an index, with its record; where there is nothing to fill, neither.
+#[tactic(auto, unfolding(theory::specs::Set::fill_event, theory::specs::Events::stores, theory::specs::Stores::apply, theory::specs::Events::logged, theory::specs::Events::records, theory::specs::Events::count))]
 pub fn fill_descs(
     table: &mut [u64],
     log: &mut [u64],

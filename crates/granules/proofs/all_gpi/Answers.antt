@@ -11,14 +11,7 @@ pub loop-n-preserved : goal.loop-n-preserved
 loop-n-preserved c =
     let l = c.loop-n in
     let x = c.number-x.result in
-    (omega arith, l.invariant.1 ∙ walk_hit (eqb x) l.n l.v c.loop-n-test.true (eq-eqb x (l.v % 16) c.if-x-v.true))
-
-pub returns-else-x-v : goal.returns-else-x-v
-returns-else-x-v c =
-    let l = c.loop-n in
-    let x = c.number-x.result in
-    rw (← c.number-x.ensures)
-    (sym (l.invariant.1 ∙ walk_miss (eqb x) l.n l.v c.loop-n-test.true (ne_eqb x (l.v % 16) c.if-x-v.false)))
+    (omega arith, l.invariant.1 ∙ walk_hit (eqb x) l.n l.v c.loop-n-test.true (eq-eqb x (l.v % 16) (omega arith)))
 
 pub returns : goal.returns
 returns c =

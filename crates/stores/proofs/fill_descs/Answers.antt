@@ -9,9 +9,6 @@ use Rattle.theory.proofs.Stores.{apply-fill_suc}
 use Rattle.stores.proofs.Events.{fill_done, fill_none}
 use Rattle.stores.proofs.fill_descs.Goals as goal
 
-pub returns-then-count-eq0 : goal.returns-then-count-eq0
-returns-then-count-eq0 c = fill_none _ _ _ _ _ _ _ c.if-count-eq0.true
-
 pub loop-k-init : goal.loop-k-init
 unfolding apply fill
 loop-k-init c = (omega arith, refl, refl)
@@ -23,5 +20,5 @@ loop-k-preserved c =
 
 pub returns : goal.returns
 returns c =
-    fill_done _ _ _ _ _ _ _ _ _ _ (omega arith) (pos_of_ne-zero c.if-count-eq0.false) c.loop-k.k (omega arith) (omega arith)
+    fill_done _ _ _ _ _ _ _ _ _ _ (omega arith) (omega arith) c.loop-k.k (omega arith) (omega arith)
     c.loop-k.invariant.1 c.log_record.ensures refl refl
