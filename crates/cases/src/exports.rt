@@ -1,4 +1,4 @@
-// The four exports of the C interface, in arrangement B: the packed number of each (docs/ABI.md).
+// The four calls of the C interface, which `abi_c` exports, in arrangement B: the packed number of each (docs/ABI.md).
 use crate::base;
 use std::io;
 

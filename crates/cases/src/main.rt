@@ -1,5 +1,5 @@
 // Document 01's cases C1 to C12, run through the compiled code: a line for each, held to the stored output, which was written from the
-// document; the exports of the C interface (`exports`); and demand 3 on C7 (`cuts`).
+// document; the calls of the C interface (`exports`); and demand 3 on C7 (`cuts`).
 #![tactic(auto)]
 
 mod base;

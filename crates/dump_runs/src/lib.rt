@@ -62,7 +62,7 @@ fn last_of(a: u64, k: u64) -> u64
 // The aligned stretch around an address that surely answers alike: a granule of a table, whose answer is read through the table's view,
 // else the whole L0 entry.
 fn piece_at(c: Config, l0: &[u64], arena: &[u64], base: PA, w: Widths, a: u64) -> Piece
-    requires fact { Open (lent c l0.now arena.now base.0) w }
+    requires opened { Open (lent c l0.now arena.now base.0) w }
     requires a_bound { a < total w }
     ensures { Holds (lookup_of (lent c l0.now arena.now base.0)) (total w) a result }
 {
@@ -89,7 +89,7 @@ fn piece_at(c: Config, l0: &[u64], arena: &[u64], base: PA, w: Widths, a: u64) -
 
 // The first run from an address on: pieces are walked while they answer alike.
 pub fn next_run(c: Config, l0: &[u64], arena: &[u64], base: PA, w: Widths, a: u64) -> Run
-    requires fact { Open (lent c l0.now arena.now base.0) w }
+    requires opened { Open (lent c l0.now arena.now base.0) w }
     requires a_bound { a < total w }
     ensures { First (lookup_of (lent c l0.now arena.now base.0)) (total w) a result }
 {

@@ -67,7 +67,7 @@ fn runs_chunk(
     filled: usize,
     out: &mut [u8],
 ) -> Chunk
-    requires fact { Open (lent c l0.now arena.now base.0) w }
+    requires opened { Open (lent c l0.now arena.now base.0) w }
     requires at_nonzero { (0 < at) × (filled ≤ length out.old) }
     ensures { Chunked (open_steps (lookup_of (lent c l0.now arena.now base.0)) w) at filled
         out.old out.new result }

@@ -12,7 +12,7 @@ use lib.ListN.{take}
 use Rattle.gpi.specs.Gpi.{gpi_at}
 use Rattle.theory.specs.Stores.{apply}
 use Rattle.theory.specs.Events.{stores}
-use Rattle.theory.specs.Mend.{mend, mends as mendsOf}
+use Rattle.theory.specs.Mend.{mend, mends as mends_of}
 use Rattle.theory.specs.Whole.{Whole}
 use Rattle.theory.proofs.Stores.{length-apply}
 use Rattle.theory.proofs.Mend.{length-mend}
@@ -143,7 +143,7 @@ module _ (w : Widths) (S : State) (K : Kept w S) where
     module _ (s : Site) (f : Found q x w s) where
       mended : (b : Bool) → ltb n (l1_words w) ≡ b → not b ≡ true
           → Whole (format_of q.config) s.unit (mend (format_of q.config) s.unit n (table_in q s))
-      unfolding mendsOf
+      unfolding mends_of
       mended true e m = let z : ◌≡◌ {A = ℕ} 0 1 = cc in absurd (omega arith)
       mended false e m =
           mends-whole (format_of q.config) (format_laws q.config) s.unit f.sited.unit_least (table_in q s) f.sited.regions.0

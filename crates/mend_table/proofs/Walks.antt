@@ -30,6 +30,9 @@ goes_same k t c t₂ c₂ g h a m e w = w ∙ sym (go m e)
     go zero e = refl
     go (suc m) e = rw (go m (λ i lo hi. e i lo (omega arith)), e (a + m) (omega arith) (omega arith)) refl
 
+-- with no store left a walk stores nothing
+pub ruleset spent = (mend_walk-full)
+
 module _ (F : Format) {u l k p : ℕ} {t : List ℕ} {c : ℕ} where
   -- none yet, one more; and where no store is left
   pub none_yet : Mends F u l k p 0 t c t c

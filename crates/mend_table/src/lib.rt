@@ -163,6 +163,7 @@ fn put_range(t: &mut [u64], p: usize, n: usize, want: Want, limit: u64, made: u6
 
 // Range p of size s becomes what it is judged to be.
 #[cycle(mend_parts_mend_region)]
+#[tactic(auto, using(crate::proofs::Walks::spent))]
 fn mend_region(t: &mut [u64], u: usize, s: Size, p: usize, limit: u64, made: u64) -> u64
     requires { Lies u (level_of s) p 1 t.old }
     ensures { Mends arm u (level_of s) limit p 1 t.old made t.new result }

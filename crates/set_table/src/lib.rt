@@ -8,7 +8,7 @@ ghost use Rattle.gpi.specs.Gpi.{num};
 ghost use Rattle.gpi.specs.Size.{bytes_of};
 ghost use Rattle.theory.specs.declared.Fused.TheVariants.{Nowhere, Level};
 ghost use Rattle.theory.specs.Normal.{span as span_of, at as word_at, base as base_of};
-ghost use Rattle.theory.specs.Set.{barriers as barriersOf, shatter, scan, climb, fused};
+ghost use Rattle.theory.specs.Set.{barriers as barriers_of, shatter, scan, climb, fused};
 ghost use Rattle.l1.specs.Arm.{arm, level_of};
 ghost use Rattle.stores.specs.Done.{Done, Room, fresh};
 ghost use Rattle.set_table.specs.Inner.{Placed, Cuts, scanned, grant_events};
@@ -107,7 +107,7 @@ pub fn shatter_contig(
 pub fn break_up(table: &mut [u64], log: &mut [u64], q: SetAt, size: Size, g: Gpi) -> Tally
     requires placed { Placed table.old q.index q.unit }
     requires room { Room table.old log.old q.offset fresh 8 (span_of q.unit 2) }
-    ensures { Done q.offset (shatter arm q.unit (num g) q.index (level_of size) ++ barriersOf q.address.0 (bytes_of size))
+    ensures { Done q.offset (shatter arm q.unit (num g) q.index (level_of size) ++ barriers_of q.address.0 (bytes_of size))
         table.old table.new log.old log.new fresh result }
 {
     let t = Tally {

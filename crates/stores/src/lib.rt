@@ -4,8 +4,8 @@
 
 ghost use Rattle.std.specs.Prelude.{◌≡◌, List, [], ◌∷◌, ℕ, ◌+◌, ◌*◌, ◌≤◌, ◌<◌, length};
 ghost use Rattle.std.proofs.lemmas.List.Edits.{sets};
-ghost use Rattle.theory.specs.Events.{granule as granuleStored};
-ghost use Rattle.theory.specs.Set.{fill_event, barriers as barriersOf};
+ghost use Rattle.theory.specs.Events.{granule as granule_stored};
+ghost use Rattle.theory.specs.Set.{fill_event, barriers as barriers_of};
 ghost use Rattle.stores.specs.Done.{Done, Room};
 
 use pa::PA;
@@ -73,7 +73,7 @@ pub fn store_granule(
 ) -> Tally
     requires at_in_bounds { at < length table.old }
     requires room { Room table.old log.old offset t 1 1 }
-    ensures { Done offset (granuleStored at granule word ∷ [])
+    ensures { Done offset (granule_stored at granule word ∷ [])
         table.old table.new log.old log.new t result }
 {
     table[at] = word;
@@ -89,7 +89,7 @@ pub fn store_granule(
 pub fn barriers(log: &mut [u64], t: Tally, address: PA, bytes: u64) -> Tally
     requires { 4 * (t.records + 3) ≤ length log.old }
     ensures { (o : ℕ) (table : List ℕ)
-        → Done o (barriersOf address.0 bytes) table table log.old log.new t result }
+        → Done o (barriers_of address.0 bytes) table table log.old log.new t result }
 {
     let n = t.records;
     log_record(log, n, 2, 0, 0, 0);

@@ -8,7 +8,7 @@ use Rattle.dump_runs.proofs.Walk.{start-run, more_run, end_run, last_run}
 use Rattle.dump_runs.proofs.next_run.Goals as goal
 
 pub pow2-end-requires : goal.pow2-end-requires
-pow2-end-requires c = let m = pps_most _ _ c.requires.fact in omega arith
+pow2-end-requires c = let m = pps_most _ _ c.requires.opened in omega arith
 
 pub loop-last-init : goal.loop-last-init
 loop-last-init c =

@@ -20,7 +20,7 @@ fits : (r : Run) (k n m : ℕ) → m ≡ 29 + length (name r.answer) → k ≤ n
 fits r k n m e h i = let l = length-line r in omega arith
 
 pub pow2-end-requires : goal.pow2-end-requires
-pow2-end-requires c = let m = pps_most _ _ c.requires.fact in omega arith
+pow2-end-requires c = let m = pps_most _ _ c.requires.opened in omega arith
 
 pub returns-then-out-k : goal.returns-then-out-k
 returns-then-out-k c =
@@ -35,7 +35,7 @@ put_line-k-requires c = fits c.next_run-r.result _ _ _ c.line_len.ensures c.loop
 
 pub overflow_add-next : goal.overflow_add-next
 overflow_add-next c =
-    let m = pps_most _ _ c.requires.fact in
+    let m = pps_most _ _ c.requires.opened in
     let t : total c.args.w ≤ 2 ^ 52 = pow_mono m in
     let h = c.next_run-r.ensures.inside in omega arith
 

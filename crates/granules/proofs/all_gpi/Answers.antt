@@ -2,9 +2,9 @@
 use mathlib.Core.Path.{sym, ◌∙◌}
 use Prim.Native.Nat.{◌%◌}
 use native.Mathlib.Omega.{arith}
-use borrow.Author.Tests.{eq-eqb, ne_eqb}
+use borrow.Author.Tests.{eq-eqb}
 use lib.Dec.{eqb}
-use Rattle.granules.proofs.Digits.{walk_end, walk_miss, walk_hit}
+use Rattle.granules.proofs.Digits.{walk_end, walk_hit}
 use Rattle.granules.proofs.all_gpi.Goals as goal
 
 pub loop-n-preserved : goal.loop-n-preserved

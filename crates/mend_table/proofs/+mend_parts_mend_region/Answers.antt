@@ -4,7 +4,7 @@ use Rattle.l1.specs.Arm.{arm}
 use Rattle.l1.proofs.Arm.{arm-laws, level_lt}
 use Rattle.mend_table.proofs.Stretches.{parts_lie, in_table}
 use Rattle.mend_table.proofs.Judging.{down}
-use Rattle.mend_table.proofs.Walks.{none_yet, one_more, full, words_mended, parts_mended}
+use Rattle.mend_table.proofs.Walks.{none_yet, one_more, words_mended, parts_mended}
 use Rattle.mend_table.proofs.+mend_parts_mend_region.Goals as goal
 
 pub mend_parts-loop-i-init : goal.mend_parts-loop-i-init
@@ -18,9 +18,6 @@ mend_parts-loop-i-preserved t c = (
   omega arith,
   one_more arm arm-laws c.requires.table.some (level_lt c.args.s) c.loop-i.invariant.1 c.mend_region-d.ensures,
 )
-
-pub mend_region-returns-then-limit-made : goal.mend_region-returns-then-limit-made
-mend_region-returns-then-limit-made t c = full arm c.if-limit-made.true
 
 pub mend_region-overflow_mul-p : goal.mend_region-overflow_mul-p
 mend_region-overflow_mul-p t c = omega (arith, in_table (parts_lie c.requires (down c.judge.ensures c.in-Parts.is)))

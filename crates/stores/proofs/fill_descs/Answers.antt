@@ -1,12 +1,11 @@
 -- `stores::fill_descs` meets its contract. The loop keeps that exactly the first k words are stored.
 use mathlib.Core.Path.{refl}
-use native.Mathlib.Nat.{pos_of_ne-zero}
 use native.Mathlib.Numerals.{add-one}
 use native.Mathlib.Omega.{arith}
 use lib.ListN.{length-set}
 use Rattle.theory.specs.Stores.{apply, fill}
 use Rattle.theory.proofs.Stores.{apply-fill_suc}
-use Rattle.stores.proofs.Events.{fill_done, fill_none}
+use Rattle.stores.proofs.Events.{fill_done}
 use Rattle.stores.proofs.fill_descs.Goals as goal
 
 pub loop-k-init : goal.loop-k-init
