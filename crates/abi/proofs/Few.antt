@@ -6,23 +6,22 @@ use mathlib.Core.List.{List, ◌∷◌, ◌++◌}
 use Prim.Native.Nat.{ℕ, zero, suc, ◌≤◌, ◌<◌}
 use native.Mathlib.Omega.{arith}
 use lib.ListN.{length}
-use Rattle.gpi.specs.declared.Nibble.{Nibble}
-use Rattle.gpi.specs.declared.Nibble.TheVariants.{Known, Reserved}
+use Rattle.std.specs.Prelude.{Option, Some, None, Result, Ok, Err}
+use Rattle.gpi.specs.declared.Gpi.{Gpi}
 use Rattle.gpi.specs.Gpi.{num, gpi_at}
+use Rattle.gpi.proofs.Rules.{num-lt}
 use Rattle.theory.specs.Format.{Format, Laws, gpi}
 use Rattle.theory.specs.Normal.{at, span, normal_word}
 use Rattle.theory.specs.Events.{granule, count}
-use Rattle.theory.specs.declared.Fused.{Fused}
-use Rattle.theory.specs.declared.Fused.TheVariants.{Nowhere as Unfused, Level, Refused as Met}
 use Rattle.theory.specs.Set.{Target, barriers, breaks, broken, broken_barriers, new_word, fusing, fused, store_events, set_events}
 use Rattle.theory.proofs.Mend.{mend_count-is, differing-few}
 use Rattle.theory.proofs.Set.{at-most_13, count-append, count-fill, count-shatter, fusing-level}
 use Rattle.theory.proofs.Arena.{length-table}
 use Rattle.config.specs.Format.{format_of}
 use Rattle.config.proofs.Format.{format_laws}
-use Rattle.resolve.specs.declared.Site.{Site}
 use Rattle.resolve.specs.declared.Place.{Place}
-use Rattle.resolve.specs.declared.Place.TheVariants.{Refused as Nowhere, Block, Table}
+use Rattle.resolve.specs.declared.Place.TheVariants.{Block, Table}
+use Rattle.resolve.specs.declared.Site.{Site}
 use Rattle.resolve.specs.declared.Refusal.{Refusal}
 use Rattle.resolve.specs.declared.Refusal.TheVariants.{InvalidRequest, InvalidL1Entry}
 use Rattle.resolve.specs.declared.Call.TheVariants.{Set}
@@ -30,10 +29,7 @@ use Rattle.resolve.specs.Lent.{Lent, place_for, placed, table_in}
 use Rattle.resolve.proofs.Numbers.{refusal_number_lem}
 use Rattle.resolve.proofs.Found.{found}
 use Rattle.stores.specs.declared.Tally.{Tally}
-use Rattle.gpt.specs.declared.Changed.TheVariants.{Refused}
 use Rattle.gpt.specs.Set.{changed_by, target_at, site_set, set_at, set_of}
-use Rattle.mend.specs.declared.Named.{Named}
-use Rattle.mend.specs.declared.Named.TheVariants.{At, Refused as Unnamed}
 use Rattle.mend.specs.Outcome.{named_by, mended_at, mend_of}
 use Rattle.mend.proofs.Sites.{sited}
 use Rattle.abi.specs.Inner.{Small, Few}
@@ -63,10 +59,10 @@ module _ (F : Format) (L : Laws F) (u : ℕ) (h : u ≤ 32) (t : List ℕ) (q : 
   unfolding fused count
   fused-few = go (fusing F u t q) refl
     where
-      go : (f : Fused) → fusing F u t q ≡ f → count (fused F u q.gpi q.word f) ≤ 8192
-      go Unfused e = omega arith
-      go (Level l) e = rw (count-fill _ (span u l) (F.contig l q.gpi)) (span-most u l h (fusing-level F u t q l e).0)
-      go (Met k) e = omega arith
+      go : (f : Result (Option ℕ) ℕ) → fusing F u t q ≡ f → count (fused F u q.gpi q.word f) ≤ 8192
+      go (Ok None) e = omega arith
+      go (Ok (Some l)) e = rw (count-fill _ (span u l) (F.contig l q.gpi)) (span-most u l h (fusing-level F u t q l e).0)
+      go (Err k) e = omega arith
 
   store-few : count (granule q.word q.granule (new_word F t q) ∷ barriers q.address q.bytes) ≡ 1
   unfolding count
@@ -83,13 +79,12 @@ module _ (F : Format) (L : Laws F) (u : ℕ) (h : u ≤ 32) (t : List ℕ) (q : 
 
 -- ---- a set's
 
-none : (r : Refusal) → Small (Refused r)
+none : (r : Refusal) → Small (Err r)
 none r = record { number = omega (arith, (refusal_number_lem r).1); records = omega arith; stores = omega arith }
 
-by : (f : Fused) (t : Tally) → t.records ≤ 13 → t.stores ≤ 16385 → Small (changed_by f t)
-by Unfused t p q = record { number = omega arith; records = p; stores = q }
-by (Level l) t p q = record { number = omega arith; records = p; stores = q }
-by (Met k) t p q = record { number = omega arith; records = p; stores = q }
+by : (f : Result (Option ℕ) ℕ) (t : Tally) → t.records ≤ 13 → t.stores ≤ 16385 → Small (changed_by f t)
+by (Ok m) t p q = record { number = omega arith; records = p; stores = q }
+by (Err k) t p q = record { number = omega arith; records = p; stores = q }
 
 at-site : (q : Lent) (L : List ℕ) (s : Site) → s.unit ≤ 32 → (x g : ℕ) → Small (site_set q L s x g).answer
 unfolding site_set
@@ -107,11 +102,11 @@ pub set-small : (q : Lent) (L : List ℕ) (x g : ℕ) → Small (set_of q L x g)
 unfolding set_of set_at
 set-small q L x g = go (gpi_at g) (place_for q (Set (length L) (gpi_at g)) x) refl
   where
-    go : (n : Nibble) (p : Place) → place_for q (Set (length L) (gpi_at g)) x ≡ p → Small (set_at q L x n p).answer
-    go n (Nowhere r) e = none r
-    go n (Block h) e = none InvalidRequest
-    go Reserved (Table s) e = none InvalidRequest
-    go (Known h) (Table s) e = at-site q L s (found q _ x s e).1.sited.unit_most x (num h)
+    go : (n : Option Gpi) (p : Result Place Refusal) → place_for q (Set (length L) (gpi_at g)) x ≡ p → Small (set_at q L x n p).answer
+    go n (Err r) e = none r
+    go n (Ok (Block h)) e = none InvalidRequest
+    go None (Ok (Table s)) e = none InvalidRequest
+    go (Some h) (Ok (Table s)) e = at-site q L s (found q _ x s e).1.sited.unit_most x (num h)
 
 -- ---- a mend's
 
@@ -119,9 +114,9 @@ pub mend-small : (q : Lent) (x k : ℕ) → Few (mend_of q x k).answer
 unfolding mend_of mended_at
 mend-small q x k = go (named_by (placed q x)) refl
   where
-    go : (p : Named) → named_by (placed q x) ≡ p → Few (mended_at q k p).answer
-    go (Unnamed r) e = omega arith
-    go (At s) e =
+    go : (p : Result Site Refusal) → named_by (placed q x) ≡ p → Few (mended_at q k p).answer
+    go (Err r) e = omega arith
+    go (Ok s) e =
         let h = sited q x s e in
         omega (
           arith,
@@ -130,3 +125,9 @@ mend-small q x k = go (named_by (placed q x)) refl
           mend_count-is (format_of q.config) s.unit k (table_in q s),
           differing-few (at (table_in q s)) (normal_word (format_of q.config) s.unit (at (table_in q s))) 0 (length (table_in q s)),
         )
+
+-- ---- what the packings ask, for the functions' attributes
+
+pub ruleset gpis = (num-lt)
+
+pub ruleset few = (mend-small)

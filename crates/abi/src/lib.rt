@@ -1,5 +1,5 @@
 // The C interface: docs/ABI.md. Each call packs what its call of `gpt` or `mend` answers into one number; what it leaves is what that leaves.
-// `abi_c` exports them.
+// `abi_c` exports them. The calls take plain numbers, as C has them. The packings are functions: a `From` would be of std's types alone.
 #![tactic(auto)]
 
 ghost use Rattle.std.specs.Prelude.{◌≡◌, ◌+◌, ◌*◌, ◌≤◌};
@@ -12,18 +12,23 @@ ghost use Rattle.gpt.specs.Set.{set_of};
 ghost use Rattle.mend.specs.Outcome.{mend_of, check_of};
 ghost use Rattle.abi.specs.Left.{SetLeft, MendLeft};
 
-use gpt::{Changed, Looked};
-use mend::{Checked, Mended};
+use config::Config;
+use gpi::Gpi;
+use gpt::GranuleProtection;
 use pa::PA;
+use resolve::Refusal;
+use set_table::Changed;
 use stores::Tally;
 
 // A lookup's answer, with its GPI.
-pub fn pack_looked(s: Looked) -> u64
+#[inline(always)]
+#[tactic(auto, using(crate::proofs::Few::gpis), unfolding(crate::specs::Packed::looked_packed))]
+pub fn pack_looked(s: Result<Gpi, Refusal>) -> u64
     ensures { result ≡ looked_packed s }
 {
     match s {
-        Looked::Ok(g) => 256 * gpi::number(g),
-        Looked::Refused(r) => resolve::refusal_number(r),
+        Ok(g) => 256 * u64::from(g),
+        Err(r) => u64::from(r),
     }
 }
 
@@ -35,40 +40,64 @@ fn pack_tally(n: u64, t: Tally) -> u64
 }
 
 // A set's answer, with its counts.
-pub fn pack_changed(a: Changed) -> u64
+#[tactic(auto, unfolding(crate::specs::Packed::changed_packed))]
+pub fn pack_changed(a: Result<Changed, Refusal>) -> u64
     requires { Small a }
     ensures { result ≡ changed_packed a }
 {
     match a {
-        Changed::Done(t) => pack_tally(0, t),
-        Changed::Stopped(t) => pack_tally(10, t),
-        Changed::Refused(r) => resolve::refusal_number(r),
+        Ok(Changed::Done(t)) => pack_tally(0, t),
+        Ok(Changed::Stopped(t)) => pack_tally(10, t),
+        Err(r) => u64::from(r),
     }
 }
 
 // A mend's answer, with its stores.
-pub fn pack_mended(m: Mended) -> u64
+#[tactic(auto, unfolding(crate::specs::Packed::mended_packed))]
+pub fn pack_mended(m: Result<u64, Refusal>) -> u64
     requires { Few m }
     ensures { result ≡ mended_packed m }
 {
     match m {
-        Mended::Ok(n) => 65536 * n,
-        Mended::Refused(r) => resolve::refusal_number(r),
+        Ok(n) => 65536 * n,
+        Err(r) => u64::from(r),
     }
 }
 
 // A check's answer, with what it says.
-pub fn pack_checked(k: Checked) -> u64
+#[tactic(auto, unfolding(crate::specs::Packed::checked_packed))]
+pub fn pack_checked(k: Result<bool, Refusal>) -> u64
     ensures { result ≡ checked_packed k }
 {
     match k {
-        Checked::Yes => 256,
-        Checked::No => 0,
-        Checked::Refused(r) => resolve::refusal_number(r),
+        Ok(true) => 256,
+        Ok(false) => 0,
+        Err(r) => u64::from(r),
+    }
+}
+
+// What a call is lent besides the arena's words, of the numbers that C gives.
+fn lend<'a>(
+    pps: u8,
+    pgs: u8,
+    l0gptsz: u8,
+    flags: u8,
+    l0: &'a [u64],
+    base: u64,
+) -> GranuleProtection<'a>
+    ensures config { result.config ≡ config_of pps pgs l0gptsz flags }
+    ensures l0 { result.l0 ≡ l0.entry }
+    ensures base { result.base.0 ≡ base }
+{
+    GranuleProtection {
+        config: Config::from_flags(pps, pgs, l0gptsz, flags),
+        l0,
+        base: PA(base),
     }
 }
 
 // The GPI of an address.
+#[inline(always)]
 pub fn gpt_lookup(
     pps: u8,
     pgs: u8,
@@ -82,8 +111,8 @@ pub fn gpt_lookup(
     ensures { result ≡ looked_packed (lookup_of (lent (config_of pps pgs l0gptsz flags) l0.now arena.now base)
         address) }
 {
-    let c = config::from_flags(pps, pgs, l0gptsz, flags);
-    pack_looked(gpt::lookup(c, l0, arena, PA(base), PA(address)))
+    let p = lend(pps, pgs, l0gptsz, flags, l0, base);
+    pack_looked(p.lookup(arena, PA(address)))
 }
 
 // The granule of an address given to another world.
@@ -102,11 +131,12 @@ pub fn gpt_set(
     ensures { SetLeft (set_of (lent (config_of pps pgs l0gptsz flags) l0.now arena.old base) log.old
         address gpi) result arena.new log.new }
 {
-    let c = config::from_flags(pps, pgs, l0gptsz, flags);
-    pack_changed(gpt::set(c, l0, arena, PA(base), log, PA(address), gpi))
+    let p = lend(pps, pgs, l0gptsz, flags, l0, base);
+    pack_changed(p.set(arena, log, PA(address), gpi))
 }
 
 // The L1 table of an address made normal, at most so many words of it.
+#[tactic(auto, using(crate::proofs::Few::few))]
 pub fn gpt_mend(
     pps: u8,
     pgs: u8,
@@ -121,8 +151,8 @@ pub fn gpt_mend(
     ensures { MendLeft (mend_of (lent (config_of pps pgs l0gptsz flags) l0.now arena.old base) address limit) result
         arena.new }
 {
-    let c = config::from_flags(pps, pgs, l0gptsz, flags);
-    pack_mended(mend::mend(c, l0, arena, PA(base), PA(address), limit))
+    let p = lend(pps, pgs, l0gptsz, flags, l0, base);
+    pack_mended(mend::mend(&p, arena, PA(address), limit))
 }
 
 // Whether the L1 table of an address is normal.
@@ -139,6 +169,6 @@ pub fn gpt_check(
     ensures { result ≡ checked_packed (check_of (lent (config_of pps pgs l0gptsz flags) l0.now arena.now base)
         address) }
 {
-    let c = config::from_flags(pps, pgs, l0gptsz, flags);
-    pack_checked(mend::check(c, l0, arena, PA(base), PA(address)))
+    let p = lend(pps, pgs, l0gptsz, flags, l0, base);
+    pack_checked(mend::check(&p, arena, PA(address)))
 }

@@ -1,4 +1,5 @@
 // The C interface's exports: docs/ABI.md. A static library over `abi`: each export is the function of that name there, and says what it says.
+// Twice, since a crate is a library or a static library and not both.
 #![tactic(auto)]
 
 ghost use Rattle.std.specs.Prelude.{◌≡◌};

@@ -1,36 +1,119 @@
 // Document 01's base arrangement B, and how a call in it is shown: a line for each.
-ghost use Rattle.std.specs.Prelude.{◌≡◌, ◌≤◌, length};
 
 use config::Config;
-use gpt::{Changed, Looked};
+use gpt::GranuleProtection;
 use pa::PA;
+use set_table::Changed;
 use std::io;
 
-// Base arrangement B, with L0GPTSZ and GPC as a case asks.
+pub const L0: [u64; 4] = [0x91, 0x8000_0003, 0x01, 0x0];
+
+// A part of the arena, from an index up to another as a line shows them, and the word that it is said to hold.
+#[derive(Clone, Copy)]
+pub struct Part {
+    pub from: usize,
+    pub to: usize,
+    pub word: u64,
+}
+
+// What C7 leaves: granule 0 of GPI 11 and every other Root.
+pub const PARTS_AFTER_C7: [Part; 5] = [
+    Part {
+        from: 0,
+        to: 1,
+        word: 0xAAAA_AAAA_AAAA_AAAB,
+    },
+    Part {
+        from: 1,
+        to: 2,
+        word: 0xAAAA_AAAA_AAAA_AAAA,
+    },
+    Part {
+        from: 2,
+        to: 32,
+        word: 0x1A1,
+    },
+    Part {
+        from: 32,
+        to: 512,
+        word: 0x2A1,
+    },
+    Part {
+        from: 512,
+        to: 1024,
+        word: 0x3A1,
+    },
+];
+
+impl Part {
+    // The words from one index up to another.
+    pub fn new(from: usize, to: usize, word: u64) -> Part {
+        Part { from, to, word }
+    }
+
+    // How many words of the part are as said.
+    pub fn alike(self, words: &[u64]) -> usize {
+        let said = self.word;
+        words
+            .iter()
+            .take(self.to)
+            .skip(self.from)
+            .filter(|w| **w == said)
+            .count()
+    }
+
+    // Whether each word of the part is there and as said.
+    pub fn holds(self, words: &[u64]) -> bool {
+        self.from <= self.to && self.alike(words) == self.to - self.from
+    }
+}
+
+// The arena and the log that calls in B are lent. Every word of the arena is Root's, of 512 MB.
+#[derive(Drop)]
+pub struct Arrangement {
+    pub arena: [u64; 1024],
+    pub log: [u64; 52],
+}
+
+impl Arrangement {
+    pub fn new() -> Arrangement {
+        Arrangement {
+            arena: [0x3A1; 1024],
+            log: [7; 52],
+        }
+    }
+
+    pub fn lookup(&self, rt: &impl Print, name: &str, address: u64) -> io::Result<()> {
+        looked(rt, name, fields(0, true), &self.arena, address)
+    }
+
+    pub fn set(&mut self, rt: &impl Print, name: &str, address: u64, gpi: u64) -> io::Result<()> {
+        changed(rt, name, &mut self.arena, &mut self.log, address, gpi)
+    }
+
+    pub fn show(&self, rt: &impl Print, parts: &[Part]) -> io::Result<()> {
+        for part in parts {
+            let from = part.from;
+            let to = part.to;
+            let count = part.alike(&self.arena);
+            println!(rt; "  words {from} up to {to} as said: {count}")?;
+        }
+        Ok(())
+    }
+}
+
+// B's fields, with L0GPTSZ and GPC as a case asks.
 pub fn fields(l0gptsz: u8, gpc: bool) -> Config {
-    config::from_flags(0, 1, l0gptsz, if gpc { 1 } else { 0 })
+    Config::from_flags(0, 1, l0gptsz, u8::from(gpc))
 }
 
-pub fn l0() -> [u64; 4]
-    ensures { 4 ≡ length result }
-{
-    [0x91, 0x8000_0003, 0x01, 0x0]
-}
-
-pub fn arena() -> [u64; 1024]
-    ensures { 1024 ≡ length result }
-{
-    [0x3A1; 1024]
-}
-
-pub fn log() -> [u64; 52]
-    ensures { 52 ≡ length result }
-{
-    [7; 52]
-}
-
-pub fn word(rt: &impl Print, text: &str, n: u64) -> io::Result<()> {
-    print!(rt; "{text}{n}")
+// B's L0 words and base, with these fields.
+pub fn protection<'a>(config: Config) -> GranuleProtection<'a> {
+    GranuleProtection {
+        config,
+        l0: &L0,
+        base: PA(0x8000_0000),
+    }
 }
 
 // A lookup: its number, and its GPI where there is one.
@@ -41,16 +124,14 @@ pub fn looked(
     arena: &[u64],
     address: u64,
 ) -> io::Result<()> {
-    let l0 = l0();
-    word(rt, name, address)?;
-    match gpt::lookup(c, &l0, arena, PA(0x8000_0000), PA(address)) {
-        Looked::Ok(g) => word(rt, ": 0, GPI ", gpi::number(g))?,
-        Looked::Refused(r) => word(rt, ": ", resolve::refusal_number(r))?,
+    print!(rt; "{name}{address}: ")?;
+    match protection(c).lookup(arena, PA(address)) {
+        Ok(g) => println!(rt; "0, GPI {}", u64::from(g)),
+        Err(r) => println!(rt; "{}", u64::from(r)),
     }
-    println!(rt)
 }
 
-// A set at 0x40000000 or elsewhere: its number and its counts.
+// A set: its number and its counts.
 pub fn changed(
     rt: &impl Print,
     name: &str,
@@ -59,62 +140,10 @@ pub fn changed(
     address: u64,
     gpi: u64,
 ) -> io::Result<()> {
-    let l0 = l0();
-    word(rt, name, address)?;
-    word(rt, " to ", gpi)?;
-    match gpt::set(
-        fields(0, true),
-        &l0,
-        arena,
-        PA(0x8000_0000),
-        log,
-        PA(address),
-        gpi,
-    ) {
-        Changed::Done(t) => {
-            word(rt, ": 0, stores ", t.stores as u64)?;
-            word(rt, ", records ", t.records as u64)?;
-        }
-        Changed::Stopped(t) => {
-            word(rt, ": 10, stores ", t.stores as u64)?;
-            word(rt, ", records ", t.records as u64)?;
-        }
-        Changed::Refused(r) => word(rt, ": ", resolve::refusal_number(r))?,
+    print!(rt; "{name}{address} to {gpi}: ")?;
+    match protection(fields(0, true)).set(arena, log, PA(address), gpi) {
+        Ok(Changed::Done(t)) => println!(rt; "0, stores {}, records {}", t.stores, t.records),
+        Ok(Changed::Stopped(t)) => println!(rt; "10, stores {}, records {}", t.stores, t.records),
+        Err(r) => println!(rt; "{}", u64::from(r)),
     }
-    println!(rt)
-}
-
-// 1 if the word at k is this one.
-pub fn is(words: &[u64], k: usize, w: u64) -> u64
-    ensures { result ≤ 1 }
-{
-    if words.len() <= k {
-        return 0;
-    }
-    if words[k] == w { 1 } else { 0 }
-}
-
-// How many words of the part from a to e are this word.
-pub fn alike(words: &[u64], a: usize, e: usize, w: u64) -> u64 {
-    let mut k = a;
-    let mut n: u64 = 0;
-    while k < e {
-        n += is(words, k, w);
-        k += 1;
-    }
-    n
-}
-
-pub fn put(words: &mut [u64], k: usize, w: u64) {
-    if words.len() <= k {
-        return;
-    }
-    words[k] = w;
-}
-
-pub fn part(rt: &impl Print, words: &[u64], a: usize, e: usize, w: u64) -> io::Result<()> {
-    word(rt, "  words ", a as u64)?;
-    word(rt, " up to ", e as u64)?;
-    word(rt, " as said: ", alike(words, a, e, w))?;
-    println!(rt)
 }

@@ -2,9 +2,9 @@
 use mathlib.Core.Path.{◌≡◌, refl}
 use mathlib.Core.Bool.{Bool, true, false}
 use Prim.Native.Nat.{ℕ}
+use Rattle.std.specs.Prelude.{Ok}
 use Rattle.gpi.specs.declared.Gpi.TheVariants.{NonSecureOnly, NoAccess7, Secure}
 use Rattle.config.specs.declared.Config.{Config}
-use Rattle.config.specs.declared.Configured.TheVariants.{Ok}
 use Rattle.config.specs.Fields.{configured_of, number, supported_of}
 use Rattle.config.specs.Flags.{config_of}
 

@@ -11,8 +11,8 @@ use Rattle.gpi.specs.declared.Size.{Size}
 use Rattle.gpi.specs.declared.Size.TheVariants.{MB2, MB32, MB512}
 use Rattle.gpi.specs.Size.{size_num, bytes_of}
 use Rattle.config.specs.declared.Widths.{Widths}
-use Rattle.config.specs.Fields.{Listed}
 use Rattle.config.specs.Index.{l0_entries, l0_index, l1_words, l1_index, granule_index, size_words}
+use Rattle.config.specs.Widths.{Listed}
 
 -- ---- as the code computes it
 
@@ -22,6 +22,8 @@ shift_one k h = shl_exact {a = 1} 1 k 64 (lit< tt) (omega arith) ∙ one-mul (2 
 -- a power that a callee handed back, less one, is a mask
 pub mask_is : (x k p : ℕ) → p ≡ 2 ^ k → bit_and x (p - 1) ≡ x % 2 ^ k
 mask_is x k p e = ap (λ (q : ℕ). bit_and x (q - 1)) e ∙ and_mask x k
+
+pub ruleset masks = (mask_is, pow_pos)
 
 -- ---- where an index lies
 

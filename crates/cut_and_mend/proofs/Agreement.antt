@@ -9,7 +9,7 @@ use Rattle.theory.specs.Set.{Agrees}
 use Rattle.l1.specs.Arm.{arm, level_of}
 use Rattle.l1.proofs.Arm.{contiguous, reads_all}
 use Rattle.config.specs.declared.Widths.{Widths}
-use Rattle.config.specs.Fields.{Listed}
+use Rattle.config.specs.Widths.{Listed}
 use Rattle.config.specs.Index.{size_words}
 use Rattle.config.proofs.Geometry.{words_32, words_512}
 use Rattle.cut_and_mend.specs.Demand3.{EntryAgrees}

@@ -12,7 +12,8 @@ use lib.Dec.{leb}
 use lib.ListN.{length, length-append}
 use lib.Pow.{pow-add, pow_pos}
 use lib.Seq.{take_all}
-use Rattle.gpi.proofs.Rules.{num-at}
+use Rattle.std.specs.Prelude.{Ok}
+use Rattle.gpi.proofs.Rules.{num-at, gpi-num}
 use Rattle.theory.specs.Format.{Format, Laws}
 use Rattle.theory.specs.Normal.{at}
 use Rattle.theory.specs.Stores.{Store, apply, cut}
@@ -26,10 +27,10 @@ use Rattle.theory.proofs.Set.{stores-set}
 use Rattle.theory.proofs.Log.{arena_cut}
 use Rattle.theory.proofs.Cut.{flat-before, flat_after, cut-outside, cut-target_new}
 use Rattle.l1.specs.L1.{flat}
-use Rattle.l1.proofs.Alike.{flat-idem, reads-num, same_reading}
+use Rattle.l1.proofs.Alike.{flat-idem, same_reading}
 use Rattle.l1.proofs.Arm.{reading_of, read_is}
 use Rattle.config.specs.declared.Widths.{Widths}
-use Rattle.config.specs.Fields.{Listed}
+use Rattle.config.specs.Widths.{Listed}
 use Rattle.config.specs.Index.{l1_words, l1_index, granule_index, granule_bytes}
 use Rattle.config.specs.Format.{format_of}
 use Rattle.config.proofs.Format.{format_laws}
@@ -38,10 +39,8 @@ use Rattle.resolve.specs.declared.Site.{Site}
 use Rattle.resolve.specs.Lent.{Lent, over, table_in, lay_in, Names}
 use Rattle.resolve.proofs.Granules.{same_granule, same_indices}
 use Rattle.resolve.proofs.Found.{Found, table_length}
-use Rattle.gpt.specs.declared.Looked.TheVariants.{Ok as Looks}
 use Rattle.gpt.specs.Lookup.{lookup_of}
 use Rattle.gpt.specs.Set.{Outcome, changed_stores, target_at, site_events}
-use Rattle.mend.specs.declared.Checked.TheVariants.{Yes}
 use Rattle.mend.specs.Outcome.{check_of}
 use Rattle.mend.specs.Mends.{Mend, AllName, Mending}
 use Rattle.mend.proofs.Calls.{mends-finish, normal-checked, yes_table}
@@ -166,7 +165,7 @@ module _ {q : Lent} {log : List ℕ} {x g : ℕ} {w : Widths} {s : Site} {o : Ou
         (λ n. same_reading (at (stored k) (l1_index w y)) (at (table_in q s) (l1_index w y)) (granule_index w y) (granule_in w f.listed y)
         (map_at flat (stored k) (table_in q s) (flat-old k m) (l1_index w y)))
 
-    pub new : (k y : ℕ) → y / granule_bytes w ≡ x / granule_bytes w → granule_store_after o < k → lookup_of (cut_after k q o) y ≡ Looks h.gpi
+    pub new : (k y : ℕ) → y / granule_bytes w ≡ x / granule_bytes w → granule_store_after o < k → lookup_of (cut_after k q o) y ≡ Ok h.gpi
     new k y e m =
         let below = below_same w f.listed x y e f.below in
         let i = same_indices w f.listed y x below f.below e in
@@ -175,7 +174,7 @@ module _ {q : Lent} {log : List ℕ} {x g : ℕ} {w : Widths} {s : Site} {o : Ou
         (i.2 ∙ sym f.granule)
         (read_is (at (stored k) s.index) s.granule f.sited.granule
         ∙ ap reading_of (cut-target_new F L (table_in q s) (target_at s x g) h.aimed s.unit agrees k (omega (arith, lead_is)))
-        ∙ ap (λ (n : ℕ). reading_of (some n)) (num-at g h.gpi h.known) ∙ reads-num h.gpi)
+        ∙ ap (λ (n : ℕ). reading_of (some n)) (num-at g h.gpi h.known) ∙ gpi-num h.gpi)
         h.supported
 
     -- ---- mends
@@ -188,10 +187,10 @@ module _ {q : Lent} {log : List ℕ} {x g : ℕ} {w : Widths} {s : Site} {o : Ou
         (same_normal F L s.unit (stored k) (granules k) (flat-is k ∙ sym (flat-granules k)))
         (mends-finish f (stored k) (length-stored k) ms m n (omega (arith, f.words))))
 
-    pub checked : (k y : ℕ) → Names w x y → check_of (lay_in q s (normal_after k o q s x g)) y ≡ Yes
+    pub checked : (k y : ℕ) → Names w x y → check_of (lay_in q s (normal_after k o q s x g)) y ≡ Ok true
     checked k y n = normal-checked f (granules k) (length-normal F L s.unit (granules k) ∙ length-granules k) y n
 
-    pub the_one : (k y : ℕ) → Names w x y → (T : List ℕ) → map flat T ≡ granules k → check_of (lay_in q s T) y ≡ Yes
+    pub the_one : (k y : ℕ) → Names w x y → (T : List ℕ) → map flat T ≡ granules k → check_of (lay_in q s T) y ≡ Ok true
         → T ≡ normal_after k o q s x g
     the_one k y n T e v =
         let len : length T ≡ s.words = map-length flat T (granules k) (e ∙ sym (flat-granules k)) ∙ length-granules k in

@@ -7,9 +7,9 @@ use native.Mathlib.Omega.{arith}
 use lib.Dec.{lit<}
 use lib.ListN.{length, get_or, take, drop, replicate, get_or-replicate, length-replicate, get_or-eq_default}
 use lib.Seq.{take_all}
+use Rattle.std.specs.Prelude.{Ok, Some}
 use Rattle.gpi.specs.declared.Gpi.{Gpi}
 use Rattle.gpi.specs.declared.Gpi.TheVariants.{Root}
-use Rattle.l1.specs.declared.Reading.TheVariants.{Known}
 use Rattle.gpi.specs.declared.Size.{Size}
 use Rattle.gpi.specs.declared.Size.TheVariants.{MB512}
 use Rattle.pa.specs.declared.PA.{PA}
@@ -17,20 +17,19 @@ use Rattle.pa.specs.Pa.{pa}
 use Rattle.theory.specs.Normal.{at, In}
 use Rattle.theory.specs.Arena.{table_at}
 use Rattle.granules.specs.Nibs.{nibs}
-use Rattle.l0.specs.declared.L0Entry.TheVariants.{Table as TableWord}
+use Rattle.l0.specs.declared.L0Entry.TheVariants.{Table}
 use Rattle.l0.specs.L0.{l0_of}
 use Rattle.l1.specs.declared.L1Entry.TheVariants.{Contiguous}
 use Rattle.l1.specs.L1.{l1_of, read_at}
 use Rattle.config.specs.declared.Widths.{Widths}
-use Rattle.config.specs.declared.Configured.TheVariants.{Ok}
 use Rattle.config.specs.Fields.{configured_of}
 use Rattle.config.specs.Index.{l1_words, size_words}
-use Rattle.gpt.specs.Set.{changed_number}
 use Rattle.resolve.specs.B.{fields_b, l0_b, arena_b, in_b}
+use Rattle.gpt.specs.Set.{changed_number}
 use Rattle.outcomes.specs.Cases.{change}
+use Rattle.outcomes.proofs.Starred.{opened, starred}
 use Rattle.cut_and_mend.specs.Demand3.{answers-0, answers-10, EntryAgrees, Tables}
 use Rattle.cut_and_mend.specs.Witness.{spoilt, Met}
-use Rattle.outcomes.proofs.Starred.{opened, starred}
 
 -- ---- the L0 words of B
 
@@ -45,7 +44,7 @@ none : {A : Type 0} → ◌≡◌ {A = ℕ} 0 1 → A
 none z = absurd (omega arith)
 
 -- only the entry 1 names a table
-pub only_entry : (e : ℕ) (a : PA) → l0_of (get_or l0_b e 0) ≡ TableWord a → e ≡ 1
+pub only_entry : (e : ℕ) (a : PA) → l0_of (get_or l0_b e 0) ≡ Some (Table a) → e ≡ 1
 unfolding l0_of
 only_entry zero a h = none (cc)
 only_entry (suc zero) a h = refl
@@ -54,10 +53,10 @@ only_entry (suc (suc (suc zero))) a h = none (cc)
 only_entry (suc (suc (suc (suc e)))) a h = none (cc)
 
 -- and it stands at the start of the arena
-only_start : (e o : ℕ) → l0_of (get_or l0_b e 0) ≡ TableWord (pa (0x8000_0000 + 8 * o)) → o ≡ 0
+only_start : (e o : ℕ) → l0_of (get_or l0_b e 0) ≡ Some (Table (pa (0x8000_0000 + 8 * o))) → o ≡ 0
 unfolding l0_of
 only_start e o h =
-    let k : TableWord (pa 0x8000_0000) ≡ TableWord (pa (0x8000_0000 + 8 * o)) =
+    let k : Some (Table (pa 0x8000_0000)) ≡ Some (Table (pa (0x8000_0000 + 8 * o))) =
     sym (ap (λ (n : ℕ). l0_of (get_or l0_b n 0)) (only_entry e (pa (0x8000_0000 + 8 * o)) h)) ∙ h in
     let k : pa 0x8000_0000 ≡ pa (0x8000_0000 + 8 * o) = cc in
     let k : 0x8000_0000 ≡ 0x8000_0000 + 8 * o = ap (λ (a : PA). a.0) k in
@@ -87,11 +86,11 @@ module _ (A : List ℕ) (len : length A ≡ 1024)
 
 -- ---- B: every word is 0x3A1
 
-entry_b : (g : Gpi) (s : Size) → l1_of 0x3A1 ≡ Contiguous g s → (Root ≡ g) × (MB512 ≡ s)
+entry_b : (g : Gpi) (s : Size) → l1_of 0x3A1 ≡ Some (Contiguous g s) → (Root ≡ g) × (MB512 ≡ s)
 unfolding l1_of
 entry_b g s e = (cc, cc)
 
-reads-b : (n : ℕ) → read_at 0x3A1 n ≡ Known Root
+reads-b : (n : ℕ) → read_at 0x3A1 n ≡ Some Root
 unfolding l1_of
 reads-b n = refl
 
@@ -104,16 +103,16 @@ module _ (A : List ℕ) (same : (k : ℕ) → k < 1024 → at A k ≡ 0x3A1) whe
             let r : In 512 i k = subst (λ (z : Size). In (size_words widths z) i k) (sym q.1) h in
             let lo = r.from in
             let hi = r.to in
-            ap (λ (v : ℕ). read_at v n) (same k (omega arith)) ∙ reads-b n ∙ ap Known q.0;
+            ap (λ (v : ℕ). read_at v n) (same k (omega arith)) ∙ reads-b n ∙ ap Some q.0;
       }
 
 -- ---- the spoilt arena: no word is contiguous
 
-flat-a : (g : Gpi) (s : Size) → l1_of 0xAAAA_AAAA_AAAA_AAAA ≡ Contiguous g s → ⊥
+flat-a : (g : Gpi) (s : Size) → l1_of 0xAAAA_AAAA_AAAA_AAAA ≡ Some (Contiguous g s) → ⊥
 unfolding l1_of nibs
 flat-a g s e = none (cc)
 
-flat-2 : (g : Gpi) (s : Size) → l1_of 0x2 ≡ Contiguous g s → ⊥
+flat-2 : (g : Gpi) (s : Size) → l1_of 0x2 ≡ Some (Contiguous g s) → ⊥
 unfolding l1_of nibs
 flat-2 g s e = none (cc)
 
@@ -132,7 +131,7 @@ met =
       answer_0 = answers-0 starred.c7.number;
       tables_spoilt = tables spoilt (ap (λ (n : ℕ). 2 + n) (length-replicate {A = ℕ} 1022 0xAAAA_AAAA_AAAA_AAAA))
           (λ i b. record {
-            agrees = λ g s e. absurd (each_word (λ v. (g : Gpi) (s : Size) → l1_of v ≡ Contiguous g s → ⊥)
+            agrees = λ g s e. absurd (each_word (λ v. (g : Gpi) (s : Size) → l1_of v ≡ Some (Contiguous g s) → ⊥)
                 0xAAAA_AAAA_AAAA_AAAA 0x2 0xAAAA_AAAA_AAAA_AAAA 1022 flat-a flat-2 flat-a i b g s e);
           })
           (each_word (λ v. v < 2 ^ 64) 0xAAAA_AAAA_AAAA_AAAA 0x2 0xAAAA_AAAA_AAAA_AAAA 1022 (lit< tt) (lit< tt) (lit< tt));

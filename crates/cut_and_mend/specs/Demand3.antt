@@ -1,6 +1,7 @@
 -- Demand 3: a set cut after any number of its stores, and mends of what the cut left. The premises and the claim, over the definitions that
 -- the contracts of lookup, set, mend and check cite; `proofs/Demand3` has the theorem. The demand's words are quoted where they are said.
 use Rattle.std.specs.Prelude.{◌≡◌, ◌≢◌, cond, List, [], ◌∷◌, ◌++◌, map, ℕ, zero, suc, ◌+◌, ◌*◌, ◌/◌, ◌≤◌, ◌<◌, ◌^◌, eqb, leb, length, get_or, drop}
+use Rattle.std.specs.Prelude.{Ok, Some, true}
 use Rattle.gpi.specs.declared.Gpi.{Gpi}
 use Rattle.gpi.specs.declared.Size.{Size}
 use Rattle.gpi.specs.declared.Size.TheVariants.{MB2}
@@ -10,13 +11,11 @@ use Rattle.theory.specs.Stores.{cut}
 use Rattle.theory.specs.Arena.{table_at}
 use Rattle.theory.specs.Events.{told, read_log}
 use Rattle.theory.specs.Set.{Agrees, changed_flat}
-use Rattle.l0.specs.declared.L0Entry.TheVariants.{Table as TableWord}
+use Rattle.l0.specs.declared.L0Entry.TheVariants.{Table as L0Table}
 use Rattle.l0.specs.L0.{l0_of}
 use Rattle.l1.specs.declared.L1Entry.TheVariants.{Contiguous}
-use Rattle.l1.specs.declared.Reading.TheVariants.{Known}
 use Rattle.l1.specs.L1.{l1_of, read_at}
 use Rattle.config.specs.declared.Widths.{Widths}
-use Rattle.config.specs.declared.Configured.TheVariants.{Ok}
 use Rattle.config.specs.Fields.{configured_of}
 use Rattle.config.specs.Index.{l0_entries, l0_index, l1_words, l1_index, granule_bytes, size_words}
 use Rattle.config.specs.Format.{format_of}
@@ -25,7 +24,6 @@ use Rattle.resolve.specs.declared.Place.TheVariants.{Table}
 use Rattle.resolve.specs.Lent.{Lent, over, placed, table_in, lay_in, Names}
 use Rattle.gpt.specs.Lookup.{lookup_of, looked_number, looked_gpi}
 use Rattle.gpt.specs.Set.{Outcome, changed_records, changed_stores, target_at}
-use Rattle.mend.specs.declared.Checked.TheVariants.{Yes}
 use Rattle.mend.specs.Outcome.{check_of}
 use Rattle.mend.specs.Mends.{Mend, AllName, Mending}
 
@@ -40,7 +38,7 @@ pub data Answers0or10 (n : ℕ) : Type 0 where
 -- reads or writes: lookups, sets and mends there are refused (8).
 pub record TableAt (w : Widths) (q : Lent) (e o : ℕ) : Type 0 where
   pub entry : e < l0_entries w
-  pub names : l0_of (get_or q.l0 e 0) ≡ TableWord (pa (q.base + 8 * o))
+  pub names : l0_of (get_or q.l0 e 0) ≡ Some (L0Table (pa (q.base + 8 * o)))
   pub inside : o + l1_words w ≤ length q.arena
 
 -- the arena's word k is one of the table from the word o on
@@ -55,8 +53,8 @@ pub record Apart (w : Widths) (q : Lent) : Type 0 where
 -- "each contiguous entry agrees with every entry in its range", by document 01: "A contiguous entry agrees if every word in its aligned
 -- range is valid and reads its GPI in all sixteen granules". The entry at i of the table t.
 pub record EntryAgrees (w : Widths) (t : List ℕ) (i : ℕ) : Type 0 where
-  pub agrees : (g : Gpi) (s : Size) → l1_of (at t i) ≡ Contiguous g s → (k : ℕ) → In (size_words w s) i k
-      → (n : ℕ) → n < 16 → read_at (at t k) n ≡ Known g
+  pub agrees : (g : Gpi) (s : Size) → l1_of (at t i) ≡ Some (Contiguous g s) → (k : ℕ) → In (size_words w s) i k
+      → (n : ℕ) → n < 16 → read_at (at t k) n ≡ Some g
 
 -- "Take any tables where no two L0 entries' L1 tables share a word and each contiguous entry agrees with every entry in its range." Words
 -- are of 64 bits, as every lent word is.
@@ -110,7 +108,7 @@ pub record Demand3 (q : Lent) (x g : ℕ) (o : Outcome) : Type 0 where
   pub widths : Widths
   pub configured : configured_of q.config ≡ Ok widths
   pub site : Site
-  pub place : placed q x ≡ Table site
+  pub place : placed q x ≡ Ok (Table site)
   -- the log is no tale: with all its stores made the arena is the one that the set leaves, and the granule store is one of them
   pub all_made : (k : ℕ) → changed_stores o.answer ≤ k → cut_after k q o ≡ o.left
   pub granule_store_made : granule_store_after o < changed_stores o.answer
@@ -130,7 +128,7 @@ pub record Demand3 (q : Lent) (x g : ℕ) (o : Outcome) : Type 0 where
   pub mended : (k : ℕ) (ms : List Mend) (m : Mend) → AllName widths x (ms ++ m ∷ []) → l1_words widths ≤ m.limit
       → Mending (cut_after k q o) (ms ++ m ∷ []) (lay_in q site (normal_after k o q site x g))
   -- the check says yes to it,
-  pub checked : (k y : ℕ) → Names widths x y → check_of (lay_in q site (normal_after k o q site x g)) y ≡ Yes
+  pub checked : (k y : ℕ) → Names widths x y → check_of (lay_in q site (normal_after k o q site x g)) y ≡ Ok true
   -- and it is "the one": a table T of these granules to which the check says yes is that table
   pub the_one : (k y : ℕ) → Names widths x y → (T : List ℕ) → map (format_of q.config).flat T ≡ granules_after k o q site x g
-      → check_of (lay_in q site T) y ≡ Yes → T ≡ normal_after k o q site x g
+      → check_of (lay_in q site T) y ≡ Ok true → T ≡ normal_after k o q site x g

@@ -1,18 +1,18 @@
 -- Laws of big-endian numbers. Crate `dump_image`.
 use mathlib.Core.Path.{◌≡◌, refl, sym, ap, ap₂, ◌∙◌}
-use mathlib.Core.List.{List, ◌++◌, append-nil}
+use mathlib.Core.List.{List, ◌++◌}
 use Prim.Native.Nat.{ℕ, zero, suc, ◌+◌, ◌*◌, ◌^◌, ◌≤◌, ◌<◌}
 use native.Mathlib.Nat.{pow-suc, pow-le-pow_right}
 use native.Mathlib.Numerals.{add-one}
 use native.Mathlib.Omega.{arith}
 use lib.Dec.{lit<}
-use lib.ListN.{length, get_or, drop, set, length-append, drop_of_length-le}
+use lib.ListN.{length, get_or, drop, set, length-append}
 use lib.Seq.{drop-cons, set_at, append_snoc}
 use Rattle.dump_image.specs.Image.{big_endian, words_from}
 
 -- one more byte has room
-pub room : {v k n b : ℕ} → v < 256 ^ k → k < n → n ≤ 8 → b < 256 → v * 256 + b < 2 ^ 64
-room {v} {k} {n} {b} h i j l =
+pub room : {v k b : ℕ} → v < 256 ^ k → k < 8 → b < 256 → v * 256 + b < 2 ^ 64
+room {v} {k} {b} h i l =
     let p : 256 ^ k ≤ 256 ^ 7 = pow-le-pow_right (lit< tt) {j = 7} (omega arith) in
     let q : 256 ^ 7 ≡ 72057594037927936 = refl in
     omega arith
@@ -47,8 +47,3 @@ words_more {v} s i k o₀ o h e f =
     ∙ set_at (words_from s i k) (get_or o₀ k 0) (drop (suc k) o₀) v k (length-words s i k)
     ∙ sym (append_snoc (words_from s i k) v (drop (suc k) o₀))
     ∙ rw (add-one, f)
-
-pub words_all : (s : List ℕ) (i k : ℕ) (o₀ o : List ℕ) → length o₀ ≤ k → k ≤ length o₀ → o ≡ words_from s i k ++ drop k o₀
-    → o ≡ words_from s i (length o₀)
-words_all s i k o₀ o h j e =
-    e ∙ ap (λ (r : List ℕ). words_from s i k ++ r) (drop_of_length-le o₀ h) ∙ append-nil (words_from s i k) ∙ ap (words_from s i) (omega arith)

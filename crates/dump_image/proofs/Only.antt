@@ -9,14 +9,13 @@ use lib.Dec.{lit<}
 use lib.ListN.{length, get_or, take, drop, length-drop, take-append-drop, drop_of_length-le}
 use lib.Seq.{take-suc, take-add, drop-cons, drop-drop, get_or-drop}
 use Rattle.config.proofs.Flags.{flags_again}
-use Rattle.dump_image.specs.declared.Head.TheVariants.{Known}
 use Rattle.dump_image.specs.declared.Image.{Image}
-use Rattle.dump_image.specs.declared.Read.TheVariants.{Whole}
 use Rattle.dump_image.specs.Image.{big_endian, words_from, head_of, fields_at, told_length, image_at, front_of, read_of, l0_words, arena_words}
 use Rattle.dump_image.specs.Encoding.{Content, Below, Lawful, bytes, words_bytes, fields_of, rest_of, image_of}
 use Rattle.dump_image.proofs.Numbers.{length-words}
 use Rattle.dump_image.proofs.Fits.{each_version, Fits, front_fits, whole_front}
 use Rattle.dump_image.proofs.RoundTrip.{rest_length}
+use Rattle.std.specs.Prelude.{Ok, Some}
 
 -- ---- bytes
 
@@ -93,7 +92,7 @@ pub record Again (s : List ℕ) (v n : ℕ) : Type 0 where
   pub pgs : (fields_at v s).pgs < 256
   pub l0gptsz : (fields_at v s).l0gptsz < 256
 
-fields-again : (s : List ℕ) → Below 256 s → (v n : ℕ) → head_of v ≡ Known n → 5 + n ≤ length s → Again s v n
+fields-again : (s : List ℕ) → Below 256 s → (v n : ℕ) → head_of v ≡ Some n → 5 + n ≤ length s → Again s v n
 fields-again s h = each_version (λ (v n : ℕ). 5 + n ≤ length s → Again s v n) one
   where
     byte : (i : ℕ) → get_or s i 0 < 256
@@ -116,7 +115,7 @@ fields-again s h = each_version (λ (v n : ℕ). 5 + n ≤ length s → Again s 
 abbrev pub content_of : List ℕ → Image → Content
 content_of s f = record { config = f.config; base = f.base.0; l0 = l0_words s f; arena = arena_words s f }
 
-module _ (s : List ℕ) (h : Below 256 s) (n : ℕ) (known : head_of (get_or s 0 0) ≡ Known n) where
+module _ (s : List ℕ) (h : Below 256 s) (n : ℕ) (known : head_of (get_or s 0 0) ≡ Some n) where
   abbrev v : ℕ
   v = get_or s 0 0
 
@@ -167,7 +166,7 @@ module _ (s : List ℕ) (h : Below 256 s) (n : ℕ) (known : head_of (get_or s 0
         refl))))))))
 
 -- bytes with an image at their front are the image of a lawful content, of the one that they tell, and what follows it
-pub only_front : (s : List ℕ) (f : Image) → Below 256 s → front_of s ≡ Whole f
+pub only_front : (s : List ℕ) (f : Image) → Below 256 s → front_of s ≡ Ok f
     → Lawful (content_of s f) × (image_of (get_or s 0 0) (content_of s f) ++ drop f.end s ≡ s)
 only_front s f h e =
     let t = front_fits s f e in
@@ -176,7 +175,7 @@ only_front s f h e =
     (lawful s h t.fields t.known u, again s h t.fields t.known u)
 
 -- bytes that read as whole are such an image
-pub only : (s : List ℕ) (f : Image) → Below 256 s → read_of s ≡ Whole f → Lawful (content_of s f) × (image_of (get_or s 0 0) (content_of s f) ≡ s)
+pub only : (s : List ℕ) (f : Image) → Below 256 s → read_of s ≡ Ok f → Lawful (content_of s f) × (image_of (get_or s 0 0) (content_of s f) ≡ s)
 only s f h e =
     let w = whole_front s f e in
     let o = only_front s f h w.0 in (

@@ -13,13 +13,12 @@ use lib.Seq.{get_or-append-add, get_or_at}
 use Rattle.pa.specs.Pa.{pa}
 use Rattle.config.specs.declared.Config.{Config}
 use Rattle.config.proofs.Flags.{flags_back}
-use Rattle.dump_image.specs.declared.Head.TheVariants.{Known}
 use Rattle.dump_image.specs.declared.Image.{Image}
-use Rattle.dump_image.specs.declared.Read.TheVariants.{Whole}
 use Rattle.dump_image.specs.Image.{big_endian, words_from, head_of, fields_at, told_length}
 use Rattle.dump_image.specs.Image.{l0_count, arena_count, front_of, read_of, l0_words, arena_words}
 use Rattle.dump_image.specs.Encoding.{Content, Below, Lawful, bytes, words_bytes, fields_of, rest_of, image_of}
 use Rattle.dump_image.proofs.Fits.{each_version, fields-few, front-whole}
+use Rattle.std.specs.Prelude.{Ok, Some}
 
 -- ---- numbers and words
 
@@ -86,10 +85,10 @@ length-words_bytes (w ∷ ws) =
 -- ---- the versions
 
 -- a known version's fields are as long as it says, and are read back
-pub fields-length : (v n : ℕ) → head_of v ≡ Known n → (c : Config) → length (fields_of v c) ≡ n
+pub fields-length : (v n : ℕ) → head_of v ≡ Some n → (c : Config) → length (fields_of v c) ≡ n
 fields-length = each_version (λ (v n : ℕ). (c : Config) → length (fields_of v c) ≡ n) (λ c. refl)
 
-fields_back : (v n : ℕ) → head_of v ≡ Known n → (w : ℕ) (c : Config) (b : List ℕ)
+fields_back : (v n : ℕ) → head_of v ≡ Some n → (w : ℕ) (c : Config) (b : List ℕ)
     → fields_at v ((v ∷ []) ++ (bytes 4 w ++ (fields_of v c ++ b))) ≡ c
 unfolding bytes
 fields_back =
@@ -110,13 +109,13 @@ told n x =
       end = 21 + n + 8 * (length x.l0 + length x.arena);
     }
 
-pub rest_length : (v n : ℕ) → head_of v ≡ Known n → (x : Content) → length (rest_of v x) ≡ 16 + n + 8 * (length x.l0 + length x.arena)
+pub rest_length : (v n : ℕ) → head_of v ≡ Some n → (x : Content) → length (rest_of v x) ≡ 16 + n + 8 * (length x.l0 + length x.arena)
 unfolding rest_of
 rest_length v n known x =
     let f = fields-length v n known x.config in simp (length-append, length-bytes, length-words_bytes) (omega arith)
 
 -- whatever follows it
-module _ (v n : ℕ) (known : head_of v ≡ Known n) (x : Content) (ok : Lawful x) (q : List ℕ) where
+module _ (v n : ℕ) (known : head_of v ≡ Some n) (x : Content) (ok : Lawful x) (q : List ℕ) where
   abbrev F : List ℕ
   F = fields_of v x.config
 
@@ -167,7 +166,7 @@ module _ (v n : ℕ) (known : head_of v ≡ Known n) (x : Content) (ok : Lawful 
       ∙ skip (bytes 4 (length x.l0)) _ 4 0 4 (omega arith) ∙ number-here 4 (length x.arena) _ (omega arith)
 
   -- the image reads as its fields ..
-  pub front-back : front_of (image_of v x ++ q) ≡ Whole (told n x)
+  pub front-back : front_of (image_of v x ++ q) ≡ Ok (told n x)
   front-back =
       ap front_of parts
       ∙ front-whole all (told n x)
@@ -209,11 +208,11 @@ module _ (v n : ℕ) (known : head_of v ≡ Known n) (x : Content) (ok : Lawful 
       ∙ words_skip (words_bytes x.l0) (words_bytes x.arena ++ q) 0 (length x.arena) ∙ words_here x.arena q ok.arena
 
 -- alone, with nothing after it
-pub read_back : (v n : ℕ) → head_of v ≡ Known n → (x : Content) → Lawful x → read_of (image_of v x) ≡ Whole (told n x)
+pub read_back : (v n : ℕ) → head_of v ≡ Some n → (x : Content) → Lawful x → read_of (image_of v x) ≡ Ok (told n x)
 unfolding read_of
 read_back v n known x ok =
     let e : image_of v x ++ [] ≡ image_of v x = append-nil (image_of v x) in
-    let f : front_of (image_of v x) ≡ Whole (told n x) = ap front_of (sym e) ∙ front-back v n known x ok [] in
+    let f : front_of (image_of v x) ≡ Ok (told n x) = ap front_of (sym e) ∙ front-back v n known x ok [] in
     let l : length (image_of v x) ≡ 21 + n + 8 * (length x.l0 + length x.arena) =
     ap length (sym e ∙ parts v n known x ok []) ∙ all-length v n known x ok [] ∙ omega arith in
     rw (f, le-ltb (told n x).end (length (image_of v x)) (omega arith))

@@ -4,13 +4,10 @@ use Rattle.std.specs.Prelude.{cond, not, ◌||◌, List, [], ◌∷◌, ◌++◌
 use Rattle.pa.specs.Pa.{pa}
 use Rattle.config.specs.declared.Config.{Config}
 use Rattle.config.specs.Flags.{config_of}
-use Rattle.dump_image.specs.declared.Head.{Head}
-use Rattle.dump_image.specs.declared.Head.TheVariants.{Known, Unknown}
 use Rattle.dump_image.specs.declared.Image.{Image}
-use Rattle.dump_image.specs.declared.Read.{Read}
-use Rattle.dump_image.specs.declared.Read.TheVariants.{Bad, Whole}
 use Rattle.dump_image.specs.declared.Fault.{Fault}
 use Rattle.dump_image.specs.declared.Fault.TheVariants.{Version, Short, Counts, Length}
+use Rattle.std.specs.Prelude.{Err, None, Ok, Option, Result, Some}
 
 -- "All big-endian": the number of n bytes from index i, the last of them the lowest
 unfoldable pub big_endian : List ℕ → ℕ → ℕ → ℕ
@@ -25,8 +22,8 @@ words_from s i (suc n) = words_from s i n ++ (big_endian s (i + 8 * n) 8 ∷ [])
 -- ---- the versions
 
 -- "version byte 1": the versions that are known, each with how many bytes its fields are
-abbrev pub head_of : ℕ → Head
-head_of v = cond (eqb v 1) (Known 4) Unknown
+abbrev pub head_of : ℕ → Option ℕ
+head_of v = cond (eqb v 1) (Some 4) None
 
 -- the fields of a version, from byte 5 on: "PPS, PGS, L0GPTSZ, flags"
 abbrev pub fields_at : ℕ → List ℕ → Config
@@ -66,33 +63,33 @@ arena_words s f = words_from s (f.words + 8 * f.l0) f.arena
 -- ---- "Refusals, in this order": a test that is met refuses, else the next line goes on
 
 -- by what the image tells, the length that it tells, and how many bytes there are
-abbrev pub verdict_of : Image → ℕ → ℕ → Read
+abbrev pub verdict_of : Image → ℕ → ℕ → Result Image Fault
 verdict_of f told m =
     -- 3: "count above its limit"; "At most 64 L0 and 4,096 arena words"
-    cond (ltb 64 f.l0 || ltb 4096 f.arena) (Bad Counts)
+    cond (ltb 64 f.l0 || ltb 4096 f.arena) (Err Counts)
     -- 2: "or, with both counts in their limits, before the last word"
-    (cond (ltb m f.end) (Bad Short)
+    (cond (ltb m f.end) (Err Short)
     -- 4: "length wrong": it is that of the rest behind version and length, "20 + 8 x both counts" with four bytes of fields
-    (cond (not (eqb (5 + told) f.end)) (Bad Length)
-    (Whole f)))
+    (cond (not (eqb (5 + told) f.end)) (Err Length)
+    (Ok f)))
 
-abbrev pub headed_of : List ℕ → ℕ → Head → Read
+abbrev pub headed_of : List ℕ → ℕ → Option ℕ → Result Image Fault
 -- 1: "version"
-headed_of s v Unknown = Bad Version
+headed_of s v None = Err Version
 -- 2: "Short means ending before the counts end"
-headed_of s v (Known n) = cond (ltb (length s) (21 + n)) (Bad Short) (verdict_of (image_at v n s) (told_length s) (length s))
+headed_of s v (Some n) = cond (ltb (length s) (21 + n)) (Err Short) (verdict_of (image_at v n s) (told_length s) (length s))
 
 -- the image at the front of some bytes, whatever follows it; 1: "or empty input"
-unfoldable pub front_of : List ℕ → Read
-front_of s = cond (eqb (length s) 0) (Bad Version) (headed_of s (get_or s 0 0) (head_of (get_or s 0 0)))
+unfoldable pub front_of : List ℕ → Result Image Fault
+front_of s = cond (eqb (length s) 0) (Err Version) (headed_of s (get_or s 0 0) (head_of (get_or s 0 0)))
 
 -- 4: "or bytes after it"
-abbrev pub alone_of : ℕ → Read → Read
-alone_of m (Bad f) = Bad f
-alone_of m (Whole f) = cond (ltb f.end m) (Bad Length) (Whole f)
+abbrev pub alone_of : ℕ → Result Image Fault → Result Image Fault
+alone_of m (Err f) = Err f
+alone_of m (Ok f) = cond (ltb f.end m) (Err Length) (Ok f)
 
 -- the image that some bytes are
-unfoldable pub read_of : List ℕ → Read
+unfoldable pub read_of : List ℕ → Result Image Fault
 read_of s = alone_of (length s) (front_of s)
 
 -- the paper's number of each fault

@@ -1,15 +1,17 @@
--- Laws of bytes put into a buffer, and of hexadecimal digits. Crate `dump_lines`.
+-- Laws of bytes put into a buffer, and of the digits of numbers. Crate `dump_lines`.
 use mathlib.Core.Path.{◌≡◌, refl, sym, ap, ap₂, ◌∙◌}
 use mathlib.Core.List.{List, [], ◌∷◌, ◌++◌}
-use Prim.Native.Nat.{ℕ, zero, suc, ◌+◌, ◌-◌, ◌*◌, ◌/◌, ◌%◌, ◌^◌, ◌≤◌, ◌<◌}
-use native.Mathlib.Nat.{add-zero, mul-suc, not-suc-le-zero, pow-suc}
+use Prim.Native.Nat.{ℕ, zero, suc, ◌+◌, ◌-◌, ◌/◌, ◌%◌, ◌^◌, ◌≤◌, ◌<◌}
+use native.Mathlib.Nat.{add-zero, div-div-eq-div-mul, div-one, pow-succ', pow-zero}
 use native.Mathlib.Numerals.{add-one}
 use native.Mathlib.Omega.{arith}
-use borrow.Author.Tests.{lt-ltb, le-ltb}
-use lib.ListN.{length, get_or, take, drop, set, length-append, drop_of_length-le}
-use lib.Pow.{pow-add}
-use lib.Seq.{sets, set_comm, length-sets, drop-cons}
-use Rattle.dump_lines.specs.Digits.{digit_of, hex, Put}
+use lib.ListN.{length, set, length-append}
+use Rattle.std.proofs.Common.{append_assoc}
+use lib.Seq.{sets, set_comm, length-sets}
+use borrow.Rule.Slice.PartMut.{put_mid}
+use Rattle.std.proofs.lemmas.Slice.{put_mid-paste}
+use Rattle.std.proofs.lemmas.List.Edits.{paste_all, sets-eq}
+use Rattle.dump_lines.specs.Digits.{digit_of, hex, lowest, Put}
 
 -- ---- one after another
 
@@ -24,21 +26,9 @@ then_put {o} {o₁} {o₂} {a} {b} {i} {m} {n} p q =
       place = let e = p.place in let f = q.place in let g = length-append a b in omega arith;
     }
 
--- one byte
-pub one_put : (o : List ℕ) (i x : ℕ) → Put o i (x ∷ []) (set o i x) (i + 1)
-one_put o i x = record { bytes = refl; place = refl }
-
 -- the buffer keeps its length
 pub put-length : {o o₁ a : List ℕ} {i m : ℕ} → Put o i a o₁ m → length o₁ ≡ length o
 put-length {o} {o₁} {a} {i} p = ap length p.bytes ∙ length-sets o i a
-
--- where there is room for two one after the other, there is room for the first ..
-pub room_first : (a b : List ℕ) (i n : ℕ) → i + length (a ++ b) ≤ n → i + length a ≤ n
-room_first a b i n h = let l = length-append a b in omega arith
-
--- .. and, once it is put, for the second
-pub room_next : (a b : List ℕ) {o o₁ : List ℕ} {i m : ℕ} → Put o i a o₁ m → i + length (a ++ b) ≤ length o → m + length b ≤ length o₁
-room_next a b p h = let l = length-append a b in let k = put-length p in let e = p.place in omega arith
 
 -- a byte behind them may be put first
 pub set-behind : (o : List ℕ) (i : ℕ) (a : List ℕ) (j d : ℕ) → i + length a ≤ j → set (sets o i a) j d ≡ sets (set o j d) i a
@@ -47,25 +37,14 @@ set-behind o i (x ∷ a) j d h =
     set-behind (set o i x) (suc i) a j d (omega arith)
     ∙ ap (λ (l : List ℕ). sets l (suc i) a) (set_comm o i j x d (λ e. absurd (omega arith)))
 
--- ---- a copy
-
-pub copy_more : (o₀ o s : List ℕ) (at k : ℕ) → k < length s → sets o₀ at s ≡ sets o (at + k) (drop k s)
-    → sets o₀ at s ≡ sets (set o (at + k) (get_or s k 0)) (at + (k + 1)) (drop (k + 1) s)
-copy_more o₀ o s at k h e =
-    e ∙ ap (λ (r : List ℕ). sets o (at + k) r) (drop-cons s k 0 h)
-    ∙ ap₂ (λ (m n : ℕ). sets (set o (at + k) (get_or s k 0)) m (drop n s)) (omega arith) (sym (add-one k))
-
-pub copy_end : (o₀ o s : List ℕ) (at k : ℕ) → length s ≤ k → k ≤ length s → sets o₀ at s ≡ sets o (at + k) (drop k s)
-    → Put o₀ at s o (at + k)
-copy_end o₀ o s at k h l e =
-    record { bytes = sym (e ∙ ap (λ (r : List ℕ). sets o (at + k) r) (drop_of_length-le s h)); place = omega arith }
-
--- a part of a list of names
-pub part_put : {o o₁ : List ℕ} {i m : ℕ} (l b : List ℕ) (a n : ℕ) → take n (drop a l) ≡ b → Put o i (take (a + n - a) (drop a l)) o₁ m
-    → Put o i b o₁ m
-part_put l b a n e p =
-    let z : take (a + n - a) (drop a l) ≡ b = ap (λ (k : ℕ). take k (drop a l)) (let y : a + n - a ≡ n = omega arith in y) ∙ e in
-    rw z at p
+-- bytes copied over a part
+pub copy_put : {at k : ℕ} {o s ys : List ℕ} → ys ≡ s → k ≡ length s → at + length s ≤ length o → Put o at s (put_mid at k o ys) (at + length s)
+copy_put {at} {k} {o} {s} {ys} e q h =
+    record {
+      bytes = put_mid-paste at k o ys s (length s) e (sym q) refl ∙ paste_all o at s (length s) refl
+          ∙ sym (simp append_assoc at (sets-eq s o at h));
+      place = refl;
+    }
 
 -- ---- digits
 
@@ -74,35 +53,50 @@ unfolding hex
 length-hex zero x = refl
 length-hex (suc n) x = ap suc (length-hex n x)
 
--- four bits a digit
-digit_power : (i : ℕ) → 2 ^ (4 * i) ≡ 16 ^ i
-digit_power zero = refl
-digit_power (suc i) =
-    ap (λ (k : ℕ). 2 ^ k) (mul-suc 4 i) ∙ pow-add 2 (4 * i) 4 ∙ ap (λ (k : ℕ). k * 16) (digit_power i) ∙ sym (pow-suc 16 i)
+-- the first of the lowest digits, in place of the last
+lowest_first : (base n x : ℕ) → lowest base (suc n) x ≡ digit_of (x / base ^ n % base) ∷ lowest base n x
+unfolding lowest
+lowest_first base zero x = ap (λ (k : ℕ). digit_of (k % base) ∷ []) (sym (ap (λ (k : ℕ). x / k) (pow-zero base) ∙ div-one x))
+lowest_first base (suc n) x =
+    ap (λ (l : List ℕ). l ++ (digit_of (x % base) ∷ [])) (lowest_first base n (x / base))
+    ∙ ap (λ (k : ℕ). digit_of (k % base) ∷ lowest base (suc n) x) (div-div-eq-div-mul x base (base ^ n) ∙ ap (λ (k : ℕ). x / k) (sym (pow-succ' base n)))
 
-pub hex-more : {d : ℕ} (o₀ o : List ℕ) (at n x i left : ℕ) → 0 < left → d ≡ digit_of (x / 2 ^ (4 * (left - 1)) % 16)
-    → sets o₀ at (hex n x) ≡ sets o i (hex left x) →
-    sets o₀ at (hex n x) ≡ sets (set o i d) (i + 1) (hex (left - 1) x)
-unfolding hex
-hex-more o₀ o at n x i zero h q e = absurd (not-suc-le-zero h)
-hex-more {d} o₀ o at n x i (suc m) h q e =
-    let z : suc m - 1 ≡ m = omega arith in
-    let p : d ≡ digit_of (x / 16 ^ m % 16) = q ∙ ap (λ (k : ℕ). digit_of (x / 2 ^ (4 * k) % 16)) z
-    ∙ ap (λ (k : ℕ). digit_of (x / k % 16)) (digit_power m) in
-    e ∙ ap (λ (c : ℕ). sets (set o i c) (suc i) (hex m x)) (sym p)
-    ∙ ap₂ (λ (k j : ℕ). sets (set o i d) k (hex j x)) (sym (add-one i)) (sym z)
+pub hex_lowest : (n x : ℕ) → hex n x ≡ lowest 16 n x
+unfolding hex lowest
+hex_lowest zero x = refl
+hex_lowest (suc n) x =
+    ap (λ (l : List ℕ). digit_of (x / 16 ^ n % 16) ∷ l) (hex_lowest n x) ∙ sym (lowest_first 16 n x)
 
-pub hex-end : (o₀ o : List ℕ) (at n x i left : ℕ) → left ≤ 0 → i + left ≡ at + n → sets o₀ at (hex n x) ≡ sets o i (hex left x)
-    → Put o₀ at (hex n x) o i
-unfolding hex
-hex-end o₀ o at n x i left h j e =
-    let z : left ≡ 0 = omega arith in
-    record { bytes = sym (e ∙ ap (λ (k : ℕ). sets o i (hex k x)) z); place = let l = length-hex n x in omega arith }
+length_lowest : (base n x : ℕ) → length (lowest base n x) ≡ n
+unfolding lowest
+length_lowest base zero x = refl
+length_lowest base (suc n) x =
+    length-append (lowest base n (x / base)) (digit_of (x % base) ∷ []) ∙ ap (λ (k : ℕ). k + 1) (length_lowest base n (x / base)) ∙ add-one n
 
-pub digit_low : (d : ℕ) → d < 10 → 48 + d ≡ digit_of d
-unfolding digit_of
-digit_low d h = rw (lt-ltb d 10 h)
+-- put from the last digit on: what is left to put says the same as the whole
+pub lowest_next : {d : ℕ} (base : ℕ) (o : List ℕ) (at i v : ℕ) → at < i → d ≡ digit_of (v % base)
+    → sets o at (lowest base (i - at) v) ≡ sets (set o (i - 1) d) at (lowest base (i - 1 - at) (v / base))
+unfolding lowest
+lowest_next {d} base o at i v h e =
+    let m : ℕ = i - 1 - at in
+    let a : List ℕ = lowest base m (v / base) in
+    let l = length_lowest base m (v / base) in
+    let p : i - at ≡ suc m = omega arith in
+    let q : at + length a ≡ i - 1 = omega arith in
+    ap (λ (k : ℕ). sets o at (lowest base k v)) p
+    ∙ sets-append o at a (digit_of (v % base) ∷ [])
+    ∙ ap₂ (λ (j c : ℕ). set (sets o at a) j c) q (sym e)
+    ∙ set-behind o at a (i - 1) d (omega arith)
 
-pub digit_high : (d : ℕ) → 10 ≤ d → 87 + d ≡ digit_of d
-unfolding digit_of
-digit_high d h = rw (le-ltb d 10 h)
+pub lowest_done : (base : ℕ) (o₀ o : List ℕ) (at n x i v : ℕ) → at ≤ i → i ≤ at
+    → sets o₀ at (lowest base n x) ≡ sets o at (lowest base (i - at) v) → Put o₀ at (lowest base n x) o (at + n)
+unfolding lowest
+lowest_done base o₀ o at n x i v h k e =
+    let z : i - at ≡ 0 = omega arith in
+    record {
+      bytes = sym (e ∙ ap (λ (j : ℕ). sets o at (lowest base j v)) z);
+      place = ap (λ (j : ℕ). at + j) (sym (length_lowest base n x));
+    }
+
+-- where there is room for a line, there is room for each of its pieces, behind those before it
+pub ruleset pieces = (put-length, length-append, length-hex)

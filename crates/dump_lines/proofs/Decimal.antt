@@ -1,16 +1,16 @@
 -- Laws of numbers in decimal: digit by digit, how long they are, and that they read back. Crate `dump_lines`.
-use mathlib.Core.Path.{◌≡◌, refl, sym, ap, ◌∙◌}
+use mathlib.Core.Path.{◌≡◌, refl, sym, ap, ap₂, ◌∙◌}
 use mathlib.Core.Bool.{Bool, true, false}
 use mathlib.Core.List.{List, [], ◌∷◌, ◌++◌}
 use Prim.Native.Nat.{ℕ, zero, suc, ◌+◌, ◌-◌, ◌*◌, ◌/◌, ◌%◌, ◌^◌, ◌≤◌, ◌<◌}
 use native.Mathlib.Decide.{dec_lt}
-use native.Mathlib.Nat.{not-suc-le-zero, pow-suc}
+use native.Mathlib.Nat.{not-suc-le-zero, one-le-pow, pow-suc}
 use native.Mathlib.Omega.{arith}
 use borrow.Author.Tests.{lt-ltb, le-ltb}
-use lib.ListN.{length, set, length-append}
-use lib.Seq.{sets}
-use Rattle.dump_lines.specs.Digits.{digits, dec, Put}
-use Rattle.dump_lines.proofs.Bytes.{sets-append, set-behind}
+use lib.ListN.{length, length-append}
+use Rattle.std.proofs.Common.{Option, Some, None, add-one}
+use Rattle.std.specs.Option.{IfSome, IfNone, unwrap_or}
+use Rattle.dump_lines.specs.Digits.{digit_of, digits, dec, lowest}
 
 -- the last digit of a number by a truth value: it is the only one, or others stand before it
 abbrev by : ℕ → ℕ → Bool → List ℕ
@@ -66,6 +66,27 @@ length-dec (suc n) x h = go (dec_lt x 10) (length-dec n (x / 10))
     go (yes l) r = let e = ap length (dec-one x l) in omega arith
     go (no l) r = let p = pow-suc 10 (suc n) in let k = r (omega arith) in let e = length_more x (omega arith) in omega arith
 
+-- and no shorter
+length_from : (k x : ℕ) → 10 ^ k ≤ x → k < length (dec x)
+length_from zero x h = length_some x
+length_from (suc k) x h =
+    let p = pow-suc 10 k in
+    let one : 0 < 10 ^ k = one-le-pow k 10 (omega arith) in
+    let r = length_from k (x / 10) (omega arith) in
+    let e = length_more x (omega arith) in
+    omega arith
+
+-- by the logarithm, which 0 has none of
+pub length_log : (o : Option ℕ) (x : ℕ) → IfNone o (x ≡ 0) → IfSome o (λ k. 10 ^ k ≤ x) → IfSome o (λ k. x < 10 * 10 ^ k)
+    → 1 + unwrap_or o 0 ≡ length (dec x)
+length_log None x n a b = sym (ap (λ (k : ℕ). length (dec k)) n ∙ ap length (dec-one 0 (omega arith)))
+length_log (Some k) x n a b =
+    let p = pow-suc 10 k in
+    let f = length_from k x a in
+    let h : x < 10 ^ suc k = omega arith in
+    let l = length-dec k x h in
+    omega arith
+
 -- ---- read back
 
 -- the number that digits behind a number make
@@ -90,21 +111,29 @@ value_digits (suc n) x h = go (dec_lt x 10) (λ l. value_digits n (x / 10) (omeg
 pub dec-value : (x : ℕ) → value 0 (dec x) ≡ x
 dec-value x = value_digits (suc x) x (omega arith)
 
--- ---- put from the last digit on: what is left to put says the same as the whole
+-- ---- by the lowest digits
 
-pub dec-next : (o₀ o : List ℕ) (at x v i : ℕ) → 10 ≤ v → i + 1 ≡ at + length (dec v) → sets o₀ at (dec x) ≡ sets o at (dec v)
-    → sets o₀ at (dec x) ≡ sets (set o i (48 + v % 10)) at (dec (v / 10))
-dec-next o₀ o at x v i h k e =
-    let l = length_more v h in
-    e ∙ ap (sets o at) (dec-more v h) ∙ sets-append o at (dec (v / 10)) ((48 + v % 10) ∷ [])
-    ∙ ap (λ (j : ℕ). set (sets o at (dec (v / 10))) j (48 + v % 10)) (let z : at + length (dec (v / 10)) ≡ i = omega arith in z)
-    ∙ set-behind o at (dec (v / 10)) i (48 + v % 10) (omega arith)
+digit_low : (d : ℕ) → d < 10 → 48 + d ≡ digit_of d
+unfolding digit_of
+digit_low d h = rw (lt-ltb d 10 h)
 
-pub dec-last : (o₀ o : List ℕ) (at x v i r : ℕ) → v < 10 → i + 1 ≡ at + length (dec v) → r ≡ at + length (dec x)
-    → sets o₀ at (dec x) ≡ sets o at (dec v) → Put o₀ at (dec x) (set o i (48 + v)) r
-dec-last o₀ o at x v i r h k p e =
-    let l = ap length (dec-one v h) in
-    record {
-      bytes = sym (e ∙ ap (sets o at) (dec-one v h) ∙ ap (λ (j : ℕ). set o j (48 + v)) (let z : at ≡ i = omega arith in z));
-      place = p;
-    }
+lowest_from : (n x : ℕ) → x < n → dec x ≡ lowest 10 (length (dec x)) x
+unfolding lowest
+lowest_from zero x h = absurd (not-suc-le-zero h)
+lowest_from (suc n) x h = go (dec_lt x 10) (λ l. lowest_from n (x / 10) (omega arith))
+  where
+    last : 48 + x % 10 ≡ digit_of (x % 10)
+    last = digit_low (x % 10) (omega arith)
+
+    go : Dec (x < 10) → (10 ≤ x → dec (x / 10) ≡ lowest 10 (length (dec (x / 10))) (x / 10)) → dec x ≡ lowest 10 (length (dec x)) x
+    go (yes l) r =
+        let e : 48 + x ≡ 48 + x % 10 = omega arith in
+        dec-one x l ∙ ap (λ (d : ℕ). d ∷ []) (e ∙ last) ∙ ap (λ (k : ℕ). lowest 10 k x) (sym (ap length (dec-one x l)))
+    go (no l) r =
+        let g : 10 ≤ x = omega arith in
+        let m : ℕ = length (dec (x / 10)) in
+        dec-more x g ∙ ap₂ (λ (a : List ℕ) (d : ℕ). a ++ (d ∷ [])) (r g) last
+        ∙ ap (λ (k : ℕ). lowest 10 k x) (sym (length_more x g ∙ add-one m))
+
+pub dec_lowest : (x : ℕ) → dec x ≡ lowest 10 (length (dec x)) x
+dec_lowest x = lowest_from (suc x) x (omega arith)

@@ -10,13 +10,13 @@ use Rattle.gpi.specs.declared.Gpi.TheVariants.{Secure, NonSecure, Root, Realm, N
 use Rattle.config.specs.declared.Widths.{Widths}
 use Rattle.resolve.specs.Refusals.{refusal_number}
 use Rattle.resolve.proofs.Numbers.{refusal_number_lem}
-use Rattle.gpt.specs.declared.Looked.{Looked}
-use Rattle.gpt.specs.declared.Looked.TheVariants.{Ok, Refused}
 use Rattle.dump_lines.specs.Digits.{hex, dec}
 use Rattle.dump_lines.proofs.Bytes.{length-hex}
 use Rattle.dump_lines.proofs.Decimal.{length-dec}
 use Rattle.dump_lines.specs.declared.Run.{Run}
 use Rattle.dump_lines.specs.Lines.{ascii, gpi_name, name, space, address, line, header, told}
+use Rattle.std.specs.Prelude.{Err, Ok, Result}
+use Rattle.resolve.specs.declared.Refusal.{Refusal}
 
 length-gpi : (g : Gpi) → length (gpi_name g) ≤ 18
 length-gpi NoAccess = omega arith
@@ -36,9 +36,9 @@ pub short_dec : (n : ℕ) → n < 100 → length (dec n) ≤ 2
 short_dec n h = length-dec 1 n h
 
 -- the longest name
-pub length-name : (a : Looked) → length (name a) ≤ 18
+pub length-name : (a : Result Gpi Refusal) → length (name a) ≤ 18
 length-name (Ok g) = length-gpi g
-length-name (Refused r) = let n = (refusal_number_lem r).1 in let h = short_dec (refusal_number r) (omega arith) in omega arith
+length-name (Err r) = let n = (refusal_number_lem r).1 in let h = short_dec (refusal_number r) (omega arith) in omega arith
 
 pub length-address : (x : ℕ) → length (address x) ≡ 14
 unfolding address
@@ -61,3 +61,6 @@ length-header w =
 pub length-told : (s : List ℕ) (n : ℕ) → length (told s n) ≡ length s + length (dec n) + 1
 unfolding told
 length-told s n = length-append (s ++ dec n) (10 ∷ []) ∙ ap (λ (k : ℕ). k + 1) (length-append s (dec n))
+
+-- what measures a line
+pub ruleset measured = (length-header, length-told)

@@ -12,6 +12,11 @@ unfoldable pub hex : ℕ → ℕ → List ℕ
 hex zero x = []
 hex (suc n) x = digit_of (x / 16 ^ n % 16) ∷ hex n x
 
+-- the n lowest digits of x in a base, the last one behind those of its part
+unfoldable pub lowest : ℕ → ℕ → ℕ → List ℕ
+lowest base zero x = []
+lowest base (suc n) x = lowest base n (x / base) ++ (digit_of (x % base) ∷ [])
+
 -- a number in decimal: its last digit behind the digits of its tenth part, if it has more than one, so that no zero stands in front. There
 -- are n steps at most
 unfoldable pub digits : ℕ → ℕ → List ℕ

@@ -7,10 +7,10 @@ use Rattle.gpi.specs.declared.Gpi.TheVariants.{NoAccess, SystemAgent, NonSecureP
 use Rattle.gpi.specs.declared.Gpi.TheVariants.{Secure, NonSecure, Root, Realm, NonSecureOnly, Any}
 use Rattle.config.specs.declared.Widths.{Widths}
 use Rattle.resolve.specs.Refusals.{refusal_number}
-use Rattle.gpt.specs.declared.Looked.{Looked}
-use Rattle.gpt.specs.declared.Looked.TheVariants.{Ok, Refused}
 use Rattle.dump_lines.specs.Digits.{hex, dec}
 use Rattle.dump_lines.specs.declared.Run.{Run}
+use Rattle.std.specs.Prelude.{Err, Ok, Result}
+use Rattle.resolve.specs.declared.Refusal.{Refusal}
 
 -- a text's bytes
 abbrev pub ascii : String → List ℕ
@@ -32,9 +32,9 @@ gpi_name NonSecureOnly = ascii "NonSecureOnly"
 gpi_name Any = ascii "Any"
 
 -- a lookup's answer: the GPI's name, or `refused N`
-abbrev pub name : Looked → List ℕ
+abbrev pub name : Result Gpi Refusal → List ℕ
 name (Ok g) = gpi_name g
-name (Refused r) = ascii "refused " ++ dec (refusal_number r)
+name (Err r) = ascii "refused " ++ dec (refusal_number r)
 
 -- "every line ends in a line feed"
 abbrev pub feed : List ℕ
@@ -58,7 +58,3 @@ header w = (ascii "gpt pps=" ++ dec w.pps) ++ ((ascii " pgs=" ++ dec w.pgs) ++ (
 -- `bad image N`, `refused N`
 unfoldable pub told : List ℕ → ℕ → List ℕ
 told what n = (what ++ dec n) ++ feed
-
--- all names, one after the other: where the code keeps them
-abbrev pub names : List ℕ
-names = ascii "NoAccessSystemAgentNonSecureProtectedNoAccess6NoAccess7SecureNonSecureRootRealmNonSecureOnlyAny"

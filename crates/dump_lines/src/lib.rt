@@ -1,30 +1,26 @@
 // The dump's lines as bytes, and the numbers in them, each put into a lent buffer from a place on. Added by the port. Crate `dump_lines`.
+// The buffer and the place in it stay two arguments of the public functions, and each length stands beside what puts it: their contracts
+// speak of both (`Put`), docs/DECISIONS.md lists them, and `dump_text` measures a line to leave a buffer without room as it is.
 #![tactic(auto)]
 
-ghost use Rattle.std.specs.Prelude.{◌≡◌, [], ◌∷◌, ◌++◌, ◌+◌, ◌≤◌, ◌<◌, ◌^◌, length, take, drop};
-ghost use Rattle.dump_lines.specs.Digits.{digit_of, hex, dec, Put};
-ghost use Rattle.dump_lines.specs.Lines.{gpi_name, names, name, address, line, header, told};
+ghost use Rattle.std.specs.Prelude.{◌≡◌, ◌++◌, ◌+◌, ◌≤◌, ◌<◌, ◌^◌, length};
+ghost use Rattle.dump_lines.specs.Digits.{digit_of, hex, dec, lowest, Put};
+ghost use Rattle.dump_lines.specs.Lines.{gpi_name, name, address, line, header, told};
 
-use config::Widths;
 use gpi::Gpi;
-use gpt::Looked;
 use resolve::Refusal;
 
-// A hexadecimal digit.
+// A hexadecimal digit. `char::from_digit` is no plainer: it answers an `Option<char>`.
+#[tactic(auto, using(std::proofs::lemmas::Bool::Decides::nat_tests), unfolding(crate::specs::Digits::digit_of))]
 fn digit(d: u64) -> u8
     requires { d < 16 }
     ensures { result ≡ digit_of d }
 {
-    if d < 10 { 48 + d as u8 } else { 87 + d as u8 }
-}
-
-// One byte.
-fn put_byte(out: &mut [u8], at: usize, b: u8) -> usize
-    requires { at + 1 ≤ length out.old }
-    ensures { Put out.old at (b ∷ []) out.new result }
-{
-    out[at] = b;
-    at + 1
+    if d < 10 {
+        b'0' + d as u8
+    } else {
+        b'a' + (d as u8 - 10)
+    }
 }
 
 // Bytes, as they are.
@@ -32,57 +28,49 @@ pub fn put(out: &mut [u8], at: usize, src: &[u8]) -> usize
     requires { at + length src.now ≤ length out.old }
     ensures { Put out.old at src.now out.new result }
 {
-    let mut k: usize = 0;
-    while k < src.len() {
-        out[at + k] = src[k];
-        k += 1;
+    let end = at + src.len();
+    out[at..end].copy_from_slice(src);
+    end
+}
+
+// The n lowest digits of a number in a base, from the last one on: std's formats write to a writer, and itoa knows decimal alone. By an
+// index, as in `stores`: when a borrow by `iter_mut` is over, the proof knows how long the buffer is and not its bytes.
+fn put_digits<const BASE: u64>(out: &mut [u8], at: usize, n: usize, x: u64) -> usize
+    requires { (at + n ≤ length out.old) × (0 < BASE) × (BASE ≤ 16) }
+    ensures { Put out.old at (lowest BASE n x) out.new result }
+{
+    let end = at + n;
+    let mut v = x;
+    for i in (at..end).rev() {
+        out[i] = digit(v % BASE);
+        v /= BASE;
     }
-    at + k
+    end
 }
 
 // The n lowest hexadecimal digits of a number.
+#[tactic(auto, using(crate::proofs::Bytes::hex_lowest))]
 pub fn put_hex(out: &mut [u8], at: usize, n: usize, x: u64) -> usize
     requires { (at + n ≤ length out.old) × (n ≤ 16) }
     ensures { Put out.old at (hex n x) out.new result }
 {
-    let mut left = n;
-    let mut i = at;
-    while 0 < left {
-        left -= 1;
-        out[i] = digit((x >> (4 * left as u64)) % 16);
-        i += 1;
-    }
-    i
+    put_digits::<16>(out, at, n, x)
 }
 
 // How long a number is in decimal.
 pub fn dec_len(x: u64) -> usize
     ensures { (result ≡ length (dec x)) × (result ≤ 20) }
 {
-    let mut n: usize = 1;
-    let mut v = x;
-    while 9 < v {
-        v = v / 10;
-        n += 1;
-    }
-    n
+    1 + x.checked_ilog10().unwrap_or(0) as usize
 }
 
-// A number in decimal, from its last digit on.
+// A number in decimal.
+#[tactic(auto, using(crate::proofs::Decimal::dec_lowest))]
 fn put_dec(out: &mut [u8], at: usize, x: u64) -> usize
     requires { at + length (dec x) ≤ length out.old }
     ensures { Put out.old at (dec x) out.new result }
 {
-    let end = at + dec_len(x);
-    let mut i = end - 1;
-    let mut v = x;
-    while 9 < v {
-        out[i] = 48 + (v % 10) as u8;
-        i -= 1;
-        v = v / 10;
-    }
-    out[i] = 48 + v as u8;
-    end
+    put_digits::<10>(out, at, dec_len(x), x)
 }
 
 // What is said, and a number.
@@ -99,118 +87,98 @@ pub fn put_numbered(out: &mut [u8], at: usize, what: &[u8], n: u64) -> usize
 pub struct Run {
     pub start: u64,
     pub last: u64,
-    pub answer: Looked,
+    pub answer: Result<Gpi, Refusal>,
 }
 
-// Where a GPI's name stands in the list of all names.
-#[derive(Clone, Copy)]
-struct Part {
-    at: usize,
-    len: usize,
-}
-
-fn gpi_part(g: Gpi) -> Part
-    ensures { (result.at + result.len ≤ 95) × (result.len ≡ length (gpi_name g)) × (take result.len (drop result.at names) ≡ gpi_name g) }
+// A GPI's name.
+fn gpi_name(g: Gpi) -> &'static [u8]
+    ensures { result.now ≡ gpi_name g }
 {
     match g {
-        Gpi::NoAccess => Part { at: 0, len: 8 },
-        Gpi::SystemAgent => Part { at: 8, len: 11 },
-        Gpi::NonSecureProtected => Part { at: 19, len: 18 },
-        Gpi::NoAccess6 => Part { at: 37, len: 9 },
-        Gpi::NoAccess7 => Part { at: 46, len: 9 },
-        Gpi::Secure => Part { at: 55, len: 6 },
-        Gpi::NonSecure => Part { at: 61, len: 9 },
-        Gpi::Root => Part { at: 70, len: 4 },
-        Gpi::Realm => Part { at: 74, len: 5 },
-        Gpi::NonSecureOnly => Part { at: 79, len: 13 },
-        Gpi::Any => Part { at: 92, len: 3 },
+        Gpi::NoAccess => b"NoAccess",
+        Gpi::SystemAgent => b"SystemAgent",
+        Gpi::NonSecureProtected => b"NonSecureProtected",
+        Gpi::NoAccess6 => b"NoAccess6",
+        Gpi::NoAccess7 => b"NoAccess7",
+        Gpi::Secure => b"Secure",
+        Gpi::NonSecure => b"NonSecure",
+        Gpi::Root => b"Root",
+        Gpi::Realm => b"Realm",
+        Gpi::NonSecureOnly => b"NonSecureOnly",
+        Gpi::Any => b"Any",
     }
 }
 
-fn gpi_len(g: Gpi) -> usize
-    ensures { result ≡ length (gpi_name g) }
-{
-    gpi_part(g).len
-}
-
-fn put_gpi(out: &mut [u8], at: usize, g: Gpi) -> usize
-    requires { at + length (gpi_name g) ≤ length out.old }
-    ensures { Put out.old at (gpi_name g) out.new result }
-{
-    let p = gpi_part(g);
-    let a = p.at;
-    let e = a + p.len;
-    let b: &[u8] =
-        b"NoAccessSystemAgentNonSecureProtectedNoAccess6NoAccess7SecureNonSecureRootRealmNonSecureOnlyAny";
-    put(out, at, &b[a..e])
-}
-
-fn name_len(a: Looked) -> usize
+fn name_len(a: Result<Gpi, Refusal>) -> usize
     ensures { (result ≡ length (name a)) × (result ≤ 18) }
 {
     match a {
-        Looked::Ok(g) => gpi_len(g),
-        Looked::Refused(r) => 8 + dec_len(resolve::refusal_number(r)),
+        Ok(g) => gpi_name(g).len(),
+        Err(r) => 8 + dec_len(u64::from(r)),
     }
 }
 
-fn put_name(out: &mut [u8], at: usize, a: Looked) -> usize
+fn put_name(out: &mut [u8], at: usize, a: Result<Gpi, Refusal>) -> usize
     requires { at + length (name a) ≤ length out.old }
     ensures { Put out.old at (name a) out.new result }
 {
     match a {
-        Looked::Ok(g) => put_gpi(out, at, g),
-        Looked::Refused(r) => put_numbered(out, at, b"refused ", resolve::refusal_number(r)),
+        Ok(g) => put(out, at, gpi_name(g)),
+        Err(r) => put_numbered(out, at, b"refused ", u64::from(r)),
     }
 }
 
 // How long a run's line is.
-pub fn line_len(a: Looked) -> usize
+pub fn line_len(a: Result<Gpi, Refusal>) -> usize
     ensures { result ≡ 29 + length (name a) }
 {
     29 + name_len(a)
 }
 
 // An address, and a space behind it.
+#[tactic(auto, using(crate::proofs::Bytes::pieces), unfolding(crate::specs::Lines::address))]
 fn put_address(out: &mut [u8], at: usize, x: u64) -> usize
     requires { at + length (address x) ≤ length out.old }
     ensures { Put out.old at (address x) out.new result }
 {
     let a = put_hex(out, at, 13, x);
-    put_byte(out, a, b' ')
+    put(out, a, b" ")
 }
 
 // A run's line: its first and its last address, and what they answer.
+#[tactic(auto, using(crate::proofs::Bytes::pieces), unfolding(crate::specs::Lines::line))]
 pub fn put_line(out: &mut [u8], at: usize, r: Run) -> usize
     requires { at + length (line r) ≤ length out.old }
     ensures { Put out.old at (line r) out.new result }
 {
     let a = put_address(out, at, r.start);
     let b = put_address(out, a, r.last);
-    let answer = r.answer;
-    let d = put_name(out, b, answer);
-    put_byte(out, d, b'\n')
+    let d = put_name(out, b, r.answer);
+    put(out, d, b"\n")
 }
 
 // How long the header's line is.
-pub fn header_len(w: Widths) -> usize
-    ensures { result ≡ length (header w) }
+#[tactic(auto, using(crate::proofs::Lengths::measured))]
+pub fn header_len(pps: u64, pgs: u64, l0gptsz: u64) -> usize
+    ensures { result ≡ length (header (record { pps = pps; pgs = pgs; l0gptsz = l0gptsz })) }
 {
-    18 + dec_len(w.pps) + dec_len(w.pgs) + dec_len(w.l0gptsz)
+    18 + dec_len(pps) + dec_len(pgs) + dec_len(l0gptsz)
 }
 
-// The header's line.
-pub fn put_header(out: &mut [u8], at: usize, w: Widths) -> usize
-    requires { at + length (header w) ≤ length out.old }
-    ensures { Put out.old at (header w) out.new result }
+// The header's line, of any three widths.
+#[tactic(auto, using(crate::proofs::Bytes::pieces), unfolding(crate::specs::Lines::header))]
+pub fn put_header(out: &mut [u8], at: usize, pps: u64, pgs: u64, l0gptsz: u64) -> usize
+    requires { at + length (header (record { pps = pps; pgs = pgs; l0gptsz = l0gptsz })) ≤ length out.old }
+    ensures { Put out.old at (header (record { pps = pps; pgs = pgs; l0gptsz = l0gptsz })) out.new result }
 {
-    let a = put_numbered(out, at, b"gpt pps=", w.pps);
-    let b = put_numbered(out, a, b" pgs=", w.pgs);
-    let c = put_numbered(out, b, b" l0=", w.l0gptsz);
-    put_byte(out, c, b'\n')
+    let a = put_numbered(out, at, b"gpt pps=", pps);
+    let b = put_numbered(out, a, b" pgs=", pgs);
+    let c = put_numbered(out, b, b" l0=", l0gptsz);
+    put(out, c, b"\n")
 }
 
 // How long the line of what is said, and a number, is.
+#[tactic(auto, using(crate::proofs::Lengths::measured))]
 pub fn told_len(what: &[u8], n: u64) -> usize
     requires { length what.now < 2 ^ 32 }
     ensures { result ≡ length (told what.now n) }
@@ -219,10 +187,11 @@ pub fn told_len(what: &[u8], n: u64) -> usize
 }
 
 // The line of what is said, and a number.
+#[tactic(auto, using(crate::proofs::Bytes::pieces), unfolding(crate::specs::Lines::told))]
 pub fn put_told(out: &mut [u8], at: usize, what: &[u8], n: u64) -> usize
     requires { at + length (told what.now n) ≤ length out.old }
     ensures { Put out.old at (told what.now n) out.new result }
 {
     let b = put_numbered(out, at, what, n);
-    put_byte(out, b, b'\n')
+    put(out, b, b"\n")
 }

@@ -4,18 +4,20 @@ use mathlib.Core.Bool.{Bool, true, false, cond}
 use Prim.Native.Nat.{ℕ, ◌+◌, ◌/◌, ◌%◌, ◌^◌, ◌≤◌, ◌<◌}
 use native.Mathlib.Omega.{arith}
 use lib.ListN.{length, get_or}
+use Rattle.std.specs.Prelude.{Err, None, Ok, Option, Result, Some}
 use Rattle.l0.specs.declared.L0Entry.{L0Entry}
-use Rattle.l0.specs.declared.L0Entry.TheVariants.{Block as BlockWord, Table as TableWord, Invalid}
+use Rattle.l0.specs.declared.L0Entry.TheVariants.{Block as L0Block, Table as L0Table}
 use Rattle.l0.specs.L0.{l0_of}
 use Rattle.config.specs.declared.Widths.{Widths}
-use Rattle.config.specs.Fields.{Listed}
+use Rattle.config.specs.Widths.{Listed}
 use Rattle.config.specs.Index.{l0_index, l1_index, granule_index, l1_words}
 use Rattle.config.proofs.Bounds.{listed-widths}
-use Rattle.resolve.specs.declared.Place.{Place}
-use Rattle.resolve.specs.declared.Place.TheVariants.{Refused as Nowhere, Block, Table}
+use Rattle.resolve.specs.declared.Refusal.{Refusal}
 use Rattle.resolve.specs.declared.Refusal.TheVariants.{OutsideArena}
-use Rattle.resolve.specs.Refusals.{outside}
 use Rattle.resolve.specs.declared.Call.TheVariants.{Plain}
+use Rattle.resolve.specs.declared.Place.{Place}
+use Rattle.resolve.specs.declared.Place.TheVariants.{Block, Table}
+use Rattle.resolve.specs.Refusals.{outside}
 use Rattle.resolve.specs.Place.{site_of, entered}
 use Rattle.resolve.specs.Lent.{Lent, ask_of, place_for}
 use Rattle.resolve.specs.Inner.{onward}
@@ -27,10 +29,10 @@ use Rattle.dump_runs.specs.Inner.{Open, Holds}
 use Rattle.dump_runs.proofs.Stretch.{last_of, last_from, last_same, last_inside, below_52, placed}
 
 -- the bits of the aligned stretch that a place speaks for
-abbrev bits_of : Widths → Place → ℕ
-bits_of w (Nowhere r) = w.l0gptsz
-bits_of w (Block g) = w.l0gptsz
-bits_of w (Table s) = w.pgs
+abbrev bits_of : Widths → Result Place Refusal → ℕ
+bits_of w (Err r) = w.l0gptsz
+bits_of w (Ok (Block g)) = w.l0gptsz
+bits_of w (Ok (Table s)) = w.pgs
 
 module _ (Q : Lent) (w : Widths) (o : Open Q w) where
   listed : Listed w
@@ -40,10 +42,10 @@ module _ (Q : Lent) (w : Widths) (o : Open Q w) where
   pps_most = listed.pps_most
 
   -- the L0 word of an address, and what it means there
-  abbrev word : ℕ → L0Entry
+  abbrev word : ℕ → Option L0Entry
   word x = l0_of (get_or Q.l0 (l0_index w x) 0)
 
-  abbrev entry : ℕ → L0Entry → Place
+  abbrev entry : ℕ → Option L0Entry → Result Place Refusal
   entry x e = onward (ask_of Q Plain x) w e
 
   placed_by : (x : ℕ) → x < total w → place_for Q Plain x ≡ entry x (word x)
@@ -67,11 +69,11 @@ module _ (Q : Lent) (w : Widths) (o : Open Q w) where
         let i : l0_index w x ≡ l0_index w a = placed a x w.pgs e w.l0gptsz w.pps (omega arith) (omega arith) in
         placed_by x l
         ∙ (λ j. entered (l0_of (get_or Q.l0 (i j) 0)) (λ t. cond (outside Q.base (length Q.arena) t (l1_words w))
-        (Nowhere OutsideArena) (Table (same-site e t j))))
+        (Err OutsideArena) (Ok (Table (same-site e t j)))))
         ∙ sym (placed_by a h)
 
     -- one L0 entry, whose stretch is asked for where it is no table
-    pub same_entry : x / 2 ^ w.l0gptsz ≡ a / 2 ^ w.l0gptsz → (p : Place) → place_for Q Plain a ≡ p → bits_of w p ≡ w.l0gptsz
+    pub same_entry : x / 2 ^ w.l0gptsz ≡ a / 2 ^ w.l0gptsz → (p : Result Place Refusal) → place_for Q Plain a ≡ p → bits_of w p ≡ w.l0gptsz
         → w.pgs < w.l0gptsz
         → place_for Q Plain x ≡ p
     same_entry e p f g z =
@@ -80,35 +82,35 @@ module _ (Q : Lent) (w : Widths) (o : Open Q w) where
         i : l0_index w x ≡ l0_index w a
         i = let k = listed in placed a x w.l0gptsz e w.l0gptsz w.pps (omega arith) (omega arith)
 
-        table : (t : ℕ) (q : Bool) → cond q (Nowhere OutsideArena) (Table (site_of (ask_of Q Plain a) w t)) ≡ p
-            → cond q (Nowhere OutsideArena) (Table (site_of (ask_of Q Plain x) w t)) ≡ p
+        table : (t : ℕ) (q : Bool) → cond q (Err OutsideArena) (Ok (Table (site_of (ask_of Q Plain a) w t))) ≡ p
+            → cond q (Err OutsideArena) (Ok (Table (site_of (ask_of Q Plain x) w t))) ≡ p
         table t true q = q
         table t false q = absurd (let y : w.pgs ≡ w.l0gptsz = ap (bits_of w) q ∙ g in omega arith)
 
-        go : (t : L0Entry) → entry a t ≡ p → entry x t ≡ p
-        go (BlockWord r) q = q
-        go (TableWord t) q = table t.0 (outside Q.base (length Q.arena) t.0 (l1_words w)) q
-        go Invalid q = q
+        go : (t : Option L0Entry) → entry a t ≡ p → entry x t ≡ p
+        go (Some (L0Block r)) q = q
+        go (Some (L0Table t)) q = table t.0 (outside Q.base (length Q.arena) t.0 (l1_words w)) q
+        go None q = q
 
   -- ---- a piece
 
-  bits_most : (p : Place) → bits_of w p ≤ w.pps
-  bits_most (Nowhere r) = listed.wide
-  bits_most (Block g) = listed.wide
-  bits_most (Table s) = let k = listed in omega arith
+  bits_most : (p : Result Place Refusal) → bits_of w p ≤ w.pps
+  bits_most (Err r) = listed.wide
+  bits_most (Ok (Block g)) = listed.wide
+  bits_most (Ok (Table s)) = let k = listed in omega arith
 
   module _ (a : ℕ) (h : a < total w) where
-    same_place : (x : ℕ) → a ≤ x → x < total w → (p : Place) → place_for Q Plain a ≡ p → x ≤ last_of a (bits_of w p) → place_for Q Plain x ≡ p
-    same_place x i l (Nowhere r) f j =
-        let k = listed in same_entry a x h l (last_same a w.l0gptsz x i j) (Nowhere r) f refl (omega arith)
-    same_place x i l (Block g) f j = let k = listed in same_entry a x h l (last_same a w.l0gptsz x i j) (Block g) f refl (omega arith)
-    same_place x i l (Table s) f j = same_granule a x h l (last_same a w.pgs x i j) ∙ f
+    same_place : (x : ℕ) → a ≤ x → x < total w → (p : Result Place Refusal) → place_for Q Plain a ≡ p → x ≤ last_of a (bits_of w p) → place_for Q Plain x ≡ p
+    same_place x i l (Err r) f j =
+        let k = listed in same_entry a x h l (last_same a w.l0gptsz x i j) (Err r) f refl (omega arith)
+    same_place x i l (Ok (Block g)) f j = let k = listed in same_entry a x h l (last_same a w.l0gptsz x i j) (Ok (Block g)) f refl (omega arith)
+    same_place x i l (Ok (Table s)) f j = same_granule a x h l (last_same a w.pgs x i j) ∙ f
 
     pub low : (a < 2 ^ 52) × (w.l0gptsz ≤ 52) × (w.pgs ≤ 52)
     low = let k = listed in (below_52 a w.pps pps_most h, omega arith, omega arith)
 
     -- by the place of a: what a lookup answers there, to the last address that the place speaks for
-    pub piece : {p : Piece} (q : Place) → place_for Q Plain a ≡ q → p.answer ≡ looked_at Q q → p.last ≡ last_of a (bits_of w q)
+    pub piece : {p : Piece} (q : Result Place Refusal) → place_for Q Plain a ≡ q → p.answer ≡ looked_at Q q → p.last ≡ last_of a (bits_of w q)
         → Holds (lookup_of Q) (total w) a p
     unfolding lookup_of
     piece {p} q g e f =

@@ -2,36 +2,35 @@
 use mathlib.Core.Path.{◌≡◌, refl, sym, ap, ap₂, ◌∙◌, subst}
 use Prim.Native.Nat.{ℕ, ◌%◌, ◌^◌}
 use lib.ListN.{get_or, take, drop}
-use Rattle.l1.specs.declared.Reading.{Reading}
-use Rattle.l1.specs.declared.Reading.TheVariants.{Known, Invalid}
+use Rattle.std.specs.Prelude.{None, Ok, Option, Result, Some}
+use Rattle.gpi.specs.declared.Gpi.{Gpi}
 use Rattle.l1.specs.L1.{read_at}
 use Rattle.config.specs.declared.Config.{Config}
 use Rattle.config.specs.declared.Widths.{Widths}
-use Rattle.config.specs.declared.Configured.TheVariants.{Ok as Taken}
 use Rattle.config.specs.Fields.{configured_of}
 use Rattle.config.specs.Index.{l1_index, granule_index}
 use Rattle.resolve.specs.declared.Call.TheVariants.{Plain}
-use Rattle.resolve.specs.declared.Place.TheVariants.{Table}
 use Rattle.resolve.specs.declared.Site.{Site}
+use Rattle.resolve.specs.declared.Refusal.{Refusal}
+use Rattle.resolve.specs.declared.Place.TheVariants.{Table}
 use Rattle.resolve.specs.Lent.{Lent, placed, table_in}
 use Rattle.resolve.proofs.Found.{Found, found, table_length}
-use Rattle.gpt.specs.declared.Looked.{Looked}
 use Rattle.gpt.specs.Lookup.{judged, looked_at, lookup_of}
-use Rattle.view.specs.declared.Held.{Held}
+use Rattle.view.specs.declared.NoGpi.{NoGpi}
 use Rattle.view.specs.Reads.{held_by, held_at}
 use Rattle.view.proofs.Spots.{taken_width, held-of_address}
 use Rattle.dump_runs.specs.Inner.{answer_of}
 
 -- a granule's answer by what the view holds
-by_reading : (c : Config) (r : Reading) → answer_of c (held_by r) ≡ judged c r
-by_reading c (Known g) = refl
-by_reading c Invalid = refl
+by_reading : (c : Config) (r : Option Gpi) → answer_of c (held_by r) ≡ judged c r
+by_reading c (Some g) = refl
+by_reading c None = refl
 
-module _ (q : Lent) (x : ℕ) (w : Widths) (o : configured_of q.config ≡ Taken w) (s : Site) (e : placed q x ≡ Table s) where
+module _ (q : Lent) (x : ℕ) (w : Widths) (o : configured_of q.config ≡ Ok w) (s : Site) (e : placed q x ≡ Ok (Table s)) where
   here : Found q x w s
   here =
       let r = found q Plain x s e in
-      let k : r.0 ≡ w = (let z : Taken r.0 ≡ Taken w = sym r.1.configured ∙ o in cc) in
+      let k : r.0 ≡ w = (let z : Ok r.0 ≡ Ok w = sym r.1.configured ∙ o in cc) in
       subst (λ (v : Widths). Found q x v s) k r.1
 
   -- view and lookup say the same
@@ -45,9 +44,9 @@ module _ (q : Lent) (x : ℕ) (w : Widths) (o : configured_of q.config ≡ Taken
       ∙ ap₂ (λ (m h : ℕ). judged q.config (read_at (get_or t m 0) h)) (sym f.index) (sym f.granule))
 
   -- as `piece_at` has it: the table's length and the distance as they were computed
-  pub answered : {r : Looked} {h : Held} {n d : ℕ} → r ≡ answer_of q.config h
+  pub answered : {r : Result Gpi Refusal} {h : Result Gpi NoGpi} {n d : ℕ} → r ≡ answer_of q.config h
       → h ≡ held_at (take n (drop s.start q.arena)) w.pgs d
-      → n ≡ s.words → d ≡ x % 2 ^ w.l0gptsz → r ≡ looked_at q (Table s)
+      → n ≡ s.words → d ≡ x % 2 ^ w.l0gptsz → r ≡ looked_at q (Ok (Table s))
   unfolding lookup_of
   answered i j k l =
       i ∙ ap (answer_of q.config) (j ∙ ap₂ (λ (m t : ℕ). held_at (take m (drop s.start q.arena)) w.pgs t) k l)

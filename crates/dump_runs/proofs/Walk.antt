@@ -7,14 +7,17 @@ use native.Mathlib.Numerals.{add-one}
 use native.Mathlib.Nat.{add-zero, suc-add}
 use native.Mathlib.Omega.{arith}
 use borrow.Author.Tests.{eq-eqb, ne_eqb}
-use Rattle.gpt.specs.declared.Looked.{Looked}
+use Rattle.std.specs.Prelude.{Result}
+use Rattle.gpi.specs.declared.Gpi.{Gpi}
+use Rattle.resolve.specs.declared.Refusal.{Refusal}
 use Rattle.dump_lines.specs.declared.Run.{Run}
 use Rattle.dump_runs.specs.declared.Piece.{Piece}
 use Rattle.dump_runs.specs.Runs.{code_of, alike, run, runs, from}
 use Rattle.dump_runs.specs.Inner.{Holds, First}
+use Rattle.dump_runs.proofs.Answers.{code-tells}
 
 -- k addresses that answer as a does, passed at once
-pass : (f : ℕ → Looked) (s a k n : ℕ) → ((x : ℕ) → a ≤ x → x ≤ a + k → f x ≡ f a) → runs f s a (k + n) ≡ runs f s (a + k) n
+pass : (f : ℕ → Result Gpi Refusal) (s a k n : ℕ) → ((x : ℕ) → a ≤ x → x ≤ a + k → f x ≡ f a) → runs f s a (k + n) ≡ runs f s (a + k) n
 unfolding runs
 pass f s a zero n h = let z : zero + n ≡ n = omega arith in ap₂ (runs f s) (sym (add-zero a)) z
 pass f s a (suc k) n h =
@@ -24,38 +27,38 @@ pass f s a (suc k) n h =
     ∙ ap (λ (m : ℕ). runs f s m n) (omega arith))
 
 -- from the address a to b, of a end
-pub slide : (f : ℕ → Looked) (s a b end : ℕ) → a ≤ b → b < end → ((x : ℕ) → a ≤ x → x ≤ b → f x ≡ f a)
+pub slide : (f : ℕ → Result Gpi Refusal) (s a b end : ℕ) → a ≤ b → b < end → ((x : ℕ) → a ≤ x → x ≤ b → f x ≡ f a)
     → runs f s a (end - 1 - a) ≡ runs f s b (end - 1 - b)
 slide f s a b end h l e =
     ap (runs f s a) (omega arith)
     ∙ pass f s a (b - a) (end - 1 - b) (λ x i j. e x i (omega arith))
     ∙ ap (λ (m : ℕ). runs f s m (end - 1 - b)) (omega arith)
 
-from-runs : (f : ℕ → Looked) (a end : ℕ) → a < end → from f a (end - a) ≡ runs f a a (end - 1 - a)
+from-runs : (f : ℕ → Result Gpi Refusal) (a end : ℕ) → a < end → from f a (end - a) ≡ runs f a a (end - 1 - a)
 unfolding from
 from-runs f a end h = ap (from f a) (let e : end - a ≡ suc (end - 1 - a) = omega arith in e)
 
-runs-step : (f : ℕ → Looked) (s a end : ℕ) → a + 1 < end → runs f s a (end - 1 - a) ≡ runs f s a (suc (end - 1 - (a + 1)))
+runs-step : (f : ℕ → Result Gpi Refusal) (s a end : ℕ) → a + 1 < end → runs f s a (end - 1 - a) ≡ runs f s a (suc (end - 1 - (a + 1)))
 runs-step f s a end h = ap (runs f s a) (omega arith)
 
 -- the first piece
-pub start-run : (f : ℕ → Looked) (end a : ℕ) (p : Piece) → a < end → Holds f end a p
+pub start-run : (f : ℕ → Result Gpi Refusal) (end a : ℕ) (p : Piece) → a < end → Holds f end a p
     → from f a (end - a) ≡ runs f a p.last (end - 1 - p.last)
 start-run f end a p h q = from-runs f a end h ∙ slide f a a p.last end q.from q.inside q.same
 
 -- one more piece that answers alike
-pub more_run : (f : ℕ → Looked) (end s l : ℕ) (p : Piece) → l + 1 < end → Holds f end (l + 1) p → code_of p.answer ≡ code_of (f l)
+pub more_run : (f : ℕ → Result Gpi Refusal) (end s l : ℕ) (p : Piece) → l + 1 < end → Holds f end (l + 1) p → p.answer ≡ f l
     → runs f s l (end - 1 - l) ≡ runs f s p.last (end - 1 - p.last)
 unfolding runs
 more_run f end s l p h q e =
     let o : suc l ≡ l + 1 = sym (add-one l) in
     runs-step f s l end h
-    ∙ rw (eq-eqb (code_of (f (suc l))) (code_of (f l)) (ap (λ (x : ℕ). code_of (f x)) o ∙ ap code_of (sym q.answer) ∙ e))
+    ∙ rw (eq-eqb (code_of (f (suc l))) (code_of (f l)) (ap code_of (ap f o ∙ sym q.answer ∙ e)))
     (ap (λ (m : ℕ). runs f s m (end - 1 - (l + 1))) o ∙ slide f s (l + 1) p.last end q.from q.inside q.same)
 
 -- a piece that answers otherwise ends the run
-pub end_run : {c : Looked} (f : ℕ → Looked) (end a l : ℕ) (p : Piece) → a ≤ l → l + 1 < end → c ≡ f l
-    → from f a (end - a) ≡ runs f a l (end - 1 - l) → Holds f end (l + 1) p → (code_of p.answer ≡ code_of c → ⊥) →
+pub end_run : {c : Result Gpi Refusal} (f : ℕ → Result Gpi Refusal) (end a l : ℕ) (p : Piece) → a ≤ l → l + 1 < end → c ≡ f l
+    → from f a (end - a) ≡ runs f a l (end - 1 - l) → Holds f end (l + 1) p → (p.answer ≡ c → ⊥) →
     First f end a (run a l c)
 unfolding runs
 end_run {c} f end a l p u h e i q n =
@@ -63,8 +66,8 @@ end_run {c} f end a l p u h e i q n =
     record {
       runs = i ∙ runs-step f a l end h
           ∙ rw (ne_eqb (code_of (f (suc l))) (code_of (f l)) (λ z. n
-          (ap code_of q.answer ∙ ap (λ (x : ℕ). code_of (f x)) (sym o) ∙ z ∙ ap code_of (sym e))))
-          (ap₂ (λ (x : Looked) (y : List Run). run a l x ∷ y) (sym e)
+          (q.answer ∙ ap f (sym o) ∙ code-tells (f (suc l)) (f l) z ∙ sym e)))
+          (ap₂ (λ (x : Result Gpi Refusal) (y : List Run). run a l x ∷ y) (sym e)
           (ap (λ (m : ℕ). runs f m m (end - 1 - (l + 1))) o ∙ sym (from-runs f (l + 1) end h)));
       start = refl;
       up = u;
@@ -72,13 +75,13 @@ end_run {c} f end a l p u h e i q n =
     }
 
 -- so does the last address
-pub last_run : {c : Looked} (f : ℕ → Looked) (end a l : ℕ) → a ≤ l → l < end → end ≤ l + 1 → c ≡ f l
+pub last_run : {c : Result Gpi Refusal} (f : ℕ → Result Gpi Refusal) (end a l : ℕ) → a ≤ l → l < end → end ≤ l + 1 → c ≡ f l
     → from f a (end - a) ≡ runs f a l (end - 1 - l) → First f end a (run a l c)
 unfolding runs from
 last_run {c} f end a l u h t e i =
     record {
       runs = i ∙ ap (runs f a l) (let z : end - 1 - l ≡ 0 = omega arith in z)
-          ∙ ap₂ (λ (x : Looked) (y : List Run). run a l x ∷ y) (sym e) (ap (from f (l + 1)) (let z : 0 ≡ end - (l + 1) = omega arith in z));
+          ∙ ap₂ (λ (x : Result Gpi Refusal) (y : List Run). run a l x ∷ y) (sym e) (ap (from f (l + 1)) (let z : 0 ≡ end - (l + 1) = omega arith in z));
       start = refl;
       up = u;
       inside = h;
@@ -87,13 +90,13 @@ last_run {c} f end a l u h t e i =
 -- ---- there is a first run
 
 -- the first run, as a fact about the definition
-pub record Head (f : ℕ → Looked) (s a n : ℕ) : Type 0 where
+pub record Head (f : ℕ → Result Gpi Refusal) (s a n : ℕ) : Type 0 where
   pub last : ℕ
   pub up : a ≤ last
   pub most : last ≤ a + n
   pub is : runs f s a n ≡ run s last (f last) ∷ from f (last + 1) (a + n - last)
 
-head_run : (f : ℕ → Looked) (s a n : ℕ) → Head f s a n
+head_run : (f : ℕ → Result Gpi Refusal) (s a n : ℕ) → Head f s a n
 unfolding runs from
 head_run f s a zero = record {
   last = a;
@@ -125,7 +128,7 @@ head_run f s a (suc n) = go (alike (f (suc a)) (f a)) refl (head_run f s (suc a)
               (ap₂ (λ (m k : ℕ). run s a (f a) ∷ from f m k) (sym (add-one a)) z);
         }
 
-pub some_run : (f : ℕ → Looked) (end a : ℕ) → a < end → (r : Run) × First f end a r
+pub some_run : (f : ℕ → Result Gpi Refusal) (end a : ℕ) → a < end → (r : Run) × First f end a r
 unfolding from
 some_run f end a h =
     let d = head_run f a a (end - 1 - a) in
@@ -142,6 +145,6 @@ some_run f end a h =
       },
     )
 
-pub none_left : (f : ℕ → Looked) (end a : ℕ) → end ≤ a → from f a (end - a) ≡ []
+pub none_left : (f : ℕ → Result Gpi Refusal) (end a : ℕ) → end ≤ a → from f a (end - a) ≡ []
 unfolding from
 none_left f end a h = ap (from f a) (let z : end - a ≡ 0 = omega arith in z)

@@ -1,7 +1,6 @@
 // The dump of an image read from a reader, written to a writer chunk after chunk. Added by the port. Crate `dump_stream`.
 #![tactic(auto)]
 
-ghost use Rattle.std.specs.Prelude.{◌≡◌, length};
 ghost use Rattle.std.specs.Io.{ReadsAtMost};
 
 use std::io;
@@ -25,14 +24,8 @@ pub fn print<W: Write>(file: &mut W, image: &[u8], out: &mut [u8]) -> io::Result
     }
 }
 
-// One byte more than the longest image, of 25 + 8 * (64 + 4096) bytes: that byte tells an image with bytes after it.
-fn room() -> [u8; 33306]
-    ensures { 33306 ≡ length result }
-{
-    [0; 33306]
-}
-
-// Reads until the buffer is full or the input ends: how many bytes stand at its start.
+// Reads until the buffer is full or the input ends: how many bytes stand at its start. A loop, since std's `read_exact` doesn't tell how many
+// there were, and `read_to_end` needs the heap.
 fn read_full<R: Read>(from: &mut R, buf: &mut [u8]) -> io::Result<usize>
     ensures { ReadsAtMost result buf.new }
 {
@@ -49,7 +42,8 @@ fn read_full<R: Read>(from: &mut R, buf: &mut [u8]) -> io::Result<usize>
 
 // The dump of the image that a reader gives, through a lent buffer; whether all of it was written. A read or write that fails is its error.
 pub fn show<R: Read, W: Write>(from: &mut R, to: &mut W, out: &mut [u8]) -> io::Result<bool> {
-    let mut image = room();
+    // One byte more than the longest image, of 25 + 8 * (64 + 4096) bytes: that byte tells an image with bytes after it.
+    let mut image = [0; 33306];
     let n = read_full(from, &mut image)?;
     print(to, &image[..n], out)
 }

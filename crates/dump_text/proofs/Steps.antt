@@ -10,20 +10,20 @@ use borrow.Author.Tests.{eq-eqb, ne_eqb}
 use lib.Dec.{lit<}
 use lib.ListN.{length}
 use lib.Pow.{pow_mono}
+use Rattle.std.specs.Prelude.{Err, None, Ok, Option, Result, Some}
+use Rattle.gpi.specs.declared.Gpi.{Gpi}
 use Rattle.config.specs.declared.Widths.{Widths}
-use Rattle.config.specs.declared.Configured.{Configured}
-use Rattle.config.specs.declared.Configured.TheVariants.{Ok, InvalidConfiguration, GptNotInitialized}
-use Rattle.config.specs.Fields.{configured_of, Listed}
+use Rattle.config.specs.declared.ConfigError.{ConfigError}
+use Rattle.config.specs.Fields.{configured_of}
+use Rattle.config.specs.Widths.{Listed}
 use Rattle.config.proofs.Bounds.{listed-widths}
-use Rattle.resolve.proofs.Numbers.{refusal_number_lem}
-use Rattle.gpt.specs.declared.Looked.{Looked}
-use Rattle.gpt.specs.declared.Looked.TheVariants.{Ok as Told, Refused as Not}
+use Rattle.resolve.specs.declared.Refusal.{Refusal}
 use Rattle.resolve.specs.Lent.{Lent}
+use Rattle.resolve.proofs.Numbers.{refusal_number_lem}
 use Rattle.gpt.specs.Lookup.{looked_number, lookup_of}
 use Rattle.dump_image.specs.declared.Fault.{Fault}
 use Rattle.dump_image.specs.declared.Fault.TheVariants.{Version, Short, Counts, Length}
-use Rattle.dump_image.specs.declared.Read.{Read}
-use Rattle.dump_image.specs.declared.Read.TheVariants.{Bad, Whole}
+use Rattle.dump_image.specs.declared.Image.{Image}
 use Rattle.dump_image.specs.Image.{read_of, fault_number}
 use Rattle.dump_lines.specs.declared.Run.{Run}
 use Rattle.dump_lines.specs.Lines.{ascii, header, line, told}
@@ -31,8 +31,6 @@ use Rattle.dump_lines.proofs.Lengths.{short_dec, length-name, length-line, lengt
 use Rattle.dump_runs.specs.Runs.{from, total}
 use Rattle.dump_runs.specs.Inner.{First}
 use Rattle.dump_runs.proofs.Walk.{some_run, none_left}
-use Rattle.dump_text.specs.declared.Opening.{Opening}
-use Rattle.dump_text.specs.declared.Opening.TheVariants.{Shown, Refused}
 use Rattle.dump_text.specs.Text.{lines, shuts, opening_by, opening_of, first_number}
 use Rattle.dump_text.specs.Text.{refused_line, bad_line, shown_text, table_text, lent_by, image_text, dump_text}
 use Rattle.dump_text.specs.Chunks.{Step, step, bytes_of, one_step, run_step, run_steps}
@@ -66,7 +64,7 @@ one_left b h k = go (ℕ_discrete k 0)
 
 -- ---- a header and runs
 
-module _ (f : ℕ → Looked) (w : Widths) where
+module _ (f : ℕ → Result Gpi Refusal) (w : Widths) where
   pub at-runs : (k : ℕ) → 0 < k → open_steps f w k ≡ run_steps f (total w) (k - 1)
   at-runs k h = rw (ne_eqb k 0 (omega arith))
 
@@ -116,15 +114,15 @@ module _ (f : ℕ → Looked) (w : Widths) where
 short_told : (s : List ℕ) (n : ℕ) → n < 100 → length s ≤ 10 → length (told s n) ≤ 47
 short_told s n k h = let e = length-told s n in let d = short_dec n k in omega arith
 
-looked_small : (a : Looked) → looked_number a < 100
-looked_small (Told g) = lit< tt
-looked_small (Not r) = let h = (refusal_number_lem r).1 in omega arith
+looked_small : (a : Result Gpi Refusal) → looked_number a < 100
+looked_small (Ok g) = lit< tt
+looked_small (Err r) = let h = (refusal_number_lem r).1 in omega arith
 
 fault_small : (f : Fault) → fault_number f < 100
 fault_small f = elim f as (λ k. fault_number k < 100) [ Version ↦ lit< tt | Short ↦ lit< tt | Counts ↦ lit< tt | Length ↦ lit< tt ]
 
 module _ (q : Lent) (k : ℕ) where
-  shut-left : Left (shown_steps q Refused) k
+  shut-left : Left (shown_steps q None) k
   shut-left =
       one_left (refused_line (first_number q))
       (short_told (ascii "refused ") (first_number q) (looked_small (lookup_of q 0)) (omega arith)) k
@@ -133,22 +131,21 @@ module _ (q : Lent) (k : ℕ) where
   unfolding table_steps
   table_left = go (configured_of q.config) refl
     where
-      shown : (w : Widths) → Listed w → (s : Bool) → Left (shown_steps q (cond s Refused (Shown w))) k
+      shown : (w : Widths) → Listed w → (s : Bool) → Left (shown_steps q (cond s None (Some w))) k
       shown w m true = shut-left
       shown w m false = open-left (lookup_of q) w m k
 
-      go : (t : Configured) → configured_of q.config ≡ t → Left (shown_steps q (opening_by t (first_number q))) k
+      go : (t : Result Widths ConfigError) → configured_of q.config ≡ t → Left (shown_steps q (opening_by t (first_number q))) k
       go (Ok w) e = shown w (listed-widths q.config w e) (shuts (first_number q))
-      go InvalidConfiguration e = shut-left
-      go GptNotInitialized e = shut-left
+      go (Err r) e = shut-left
 
 pub dump_left : (s : List ℕ) (k : ℕ) → Left (dump_steps s) k
 unfolding dump_steps
 dump_left s k = go (read_of s)
   where
-    go : (r : Read) → Left (image_steps s r) k
-    go (Bad f) = one_left (bad_line (fault_number f)) (short_told (ascii "bad image ") (fault_number f) (fault_small f) (omega arith)) k
-    go (Whole f) = table_left (lent_by s f) k
+    go : (r : Result Image Fault) → Left (image_steps s r) k
+    go (Err f) = one_left (bad_line (fault_number f)) (short_told (ascii "bad image ") (fault_number f) (fault_small f) (omega arith)) k
+    go (Ok f) = table_left (lent_by s f) k
 
 -- ---- every text has a first line
 
@@ -156,13 +153,13 @@ pub some_first : (s : List ℕ) → none (dump_steps s 0) ≡ false
 unfolding dump_steps table_steps
 some_first s = go (read_of s)
   where
-    shown : (q : Lent) (o : Opening) → none (shown_steps q o 0) ≡ false
-    shown q (Shown w) = refl
-    shown q Refused = refl
+    shown : (q : Lent) (o : Option Widths) → none (shown_steps q o 0) ≡ false
+    shown q (Some w) = refl
+    shown q None = refl
 
-    go : (r : Read) → none (image_steps s r 0) ≡ false
-    go (Bad f) = refl
-    go (Whole f) =
+    go : (r : Result Image Fault) → none (image_steps s r 0) ≡ false
+    go (Err f) = refl
+    go (Ok f) =
         shown (lent_by s f) (opening_of f.config (first_number (lent_by s f)))
 
 -- ---- the steps from the start are the text
@@ -176,17 +173,17 @@ table_text_lem : (q : Lent) → bytes_of (table_steps q 0) ≡ table_text q
 unfolding table_steps table_text bytes_of
 table_text_lem q = go (opening_of q.config (first_number q))
   where
-    go : (o : Opening) → bytes_of (shown_steps q o 0) ≡ shown_text q o
-    go (Shown w) =
+    go : (o : Option Widths) → bytes_of (shown_steps q o 0) ≡ shown_text q o
+    go (Some w) =
         ap (λ (l : List ℕ). header w ++ l)
         (run-lines (from (lookup_of q) 0 (total w - 0))
         ∙ ap (λ (n : ℕ). lines (from (lookup_of q) 0 n)) (let z : total w - 0 ≡ total w = omega arith in z))
-    go Refused = append-nil _
+    go None = append-nil _
 
 pub dump_text_lem : (s : List ℕ) → bytes_of (dump_steps s 0) ≡ dump_text s
 unfolding dump_steps dump_text bytes_of
 dump_text_lem s = go (read_of s)
   where
-    go : (r : Read) → bytes_of (image_steps s r 0) ≡ image_text s r
-    go (Bad f) = append-nil _
-    go (Whole f) = table_text_lem (lent_by s f)
+    go : (r : Result Image Fault) → bytes_of (image_steps s r 0) ≡ image_text s r
+    go (Err f) = append-nil _
+    go (Ok f) = table_text_lem (lent_by s f)

@@ -1,20 +1,20 @@
 -- The text in chunks: what is left from a place on, and how much of it a buffer takes. `proofs/Stream` shows that chunks of any sizes, one
 -- after the other, are the text. Crate `dump_text`.
 use Rattle.std.specs.Prelude.{◌≡◌, Bool, true, false, cond, List, [], ◌∷◌, ◌++◌, map, ℕ, ◌+◌, ◌-◌, eqb, leb, length}
+use Rattle.std.specs.Prelude.{Err, None, Ok, Option, Result, Some}
 use Rattle.std.proofs.lemmas.List.Edits.{sets}
+use Rattle.gpi.specs.declared.Gpi.{Gpi}
 use Rattle.config.specs.declared.Widths.{Widths}
-use Rattle.gpt.specs.declared.Looked.{Looked}
+use Rattle.resolve.specs.declared.Refusal.{Refusal}
 use Rattle.resolve.specs.Lent.{Lent}
 use Rattle.gpt.specs.Lookup.{lookup_of}
-use Rattle.dump_image.specs.declared.Read.{Read}
-use Rattle.dump_image.specs.declared.Read.TheVariants.{Bad, Whole}
+use Rattle.dump_image.specs.declared.Fault.{Fault}
+use Rattle.dump_image.specs.declared.Image.{Image}
 use Rattle.dump_image.specs.Image.{read_of, fault_number}
 use Rattle.dump_lines.specs.declared.Run.{Run}
 use Rattle.dump_lines.specs.Lines.{line, header}
 use Rattle.dump_runs.specs.Runs.{from, total}
 use Rattle.dump_text.specs.declared.Chunk.{Chunk}
-use Rattle.dump_text.specs.declared.Opening.{Opening}
-use Rattle.dump_text.specs.declared.Opening.TheVariants.{Shown, Refused}
 use Rattle.dump_text.specs.Text.{opening_of, first_number, refused_line, bad_line, lent_by}
 
 -- a line, and the place behind it
@@ -39,23 +39,23 @@ abbrev pub run_step : Run → Step
 run_step r = step (line r) (r.last + 2)
 
 -- the runs of the addresses from a on, below the end
-abbrev pub run_steps : (ℕ → Looked) → ℕ → ℕ → List Step
+abbrev pub run_steps : (ℕ → Result Gpi Refusal) → ℕ → ℕ → List Step
 run_steps f end a = map run_step (from f a (end - a))
 
 -- a header, and the runs
-abbrev pub open_steps : (ℕ → Looked) → Widths → ℕ → List Step
+abbrev pub open_steps : (ℕ → Result Gpi Refusal) → Widths → ℕ → List Step
 open_steps f w k = cond (eqb k 0) (step (header w) 1 ∷ run_steps f (total w) 0) (run_steps f (total w) (k - 1))
 
-abbrev pub shown_steps : Lent → Opening → ℕ → List Step
-shown_steps q (Shown w) = open_steps (lookup_of q) w
-shown_steps q Refused = one_step (refused_line (first_number q))
+abbrev pub shown_steps : Lent → Option Widths → ℕ → List Step
+shown_steps q (Some w) = open_steps (lookup_of q) w
+shown_steps q None = one_step (refused_line (first_number q))
 
 unfoldable pub table_steps : Lent → ℕ → List Step
 table_steps q = shown_steps q (opening_of q.config (first_number q))
 
-abbrev pub image_steps : List ℕ → Read → ℕ → List Step
-image_steps s (Bad f) = one_step (bad_line (fault_number f))
-image_steps s (Whole f) = table_steps (lent_by s f)
+abbrev pub image_steps : List ℕ → Result Image Fault → ℕ → List Step
+image_steps s (Err f) = one_step (bad_line (fault_number f))
+image_steps s (Ok f) = table_steps (lent_by s f)
 
 unfoldable pub dump_steps : List ℕ → ℕ → List Step
 dump_steps s = image_steps s (read_of s)

@@ -1,20 +1,17 @@
 -- The dump's whole text, for every input: document 01, "Dump image and text". Crate `dump_text`.
-use Rattle.std.specs.Prelude.{Bool, cond, not, ◌&&◌, List, [], ◌∷◌, ◌++◌, ℕ, eqb, leb}
+use Rattle.std.specs.Prelude.{Bool, cond, not, ◌&&◌, List, [], ◌∷◌, ◌++◌, ℕ, eqb, leb, Err, None, Ok, Option, Result, Some}
 use Rattle.config.specs.declared.Config.{Config}
-use Rattle.config.specs.declared.Configured.{Configured}
-use Rattle.config.specs.declared.Configured.TheVariants.{Ok, InvalidConfiguration, GptNotInitialized}
+use Rattle.config.specs.declared.ConfigError.{ConfigError}
+use Rattle.config.specs.declared.Widths.{Widths}
 use Rattle.config.specs.Fields.{configured_of}
 use Rattle.resolve.specs.Lent.{Lent, lent}
 use Rattle.gpt.specs.Lookup.{looked_number, lookup_of}
 use Rattle.dump_image.specs.declared.Image.{Image}
-use Rattle.dump_image.specs.declared.Read.{Read}
-use Rattle.dump_image.specs.declared.Read.TheVariants.{Bad, Whole}
+use Rattle.dump_image.specs.declared.Fault.{Fault}
 use Rattle.dump_image.specs.Image.{read_of, fault_number, l0_words, arena_words}
 use Rattle.dump_lines.specs.declared.Run.{Run}
 use Rattle.dump_lines.specs.Lines.{ascii, line, header, told}
 use Rattle.dump_runs.specs.Runs.{from, total}
-use Rattle.dump_text.specs.declared.Opening.{Opening}
-use Rattle.dump_text.specs.declared.Opening.TheVariants.{Shown, Refused}
 
 unfoldable pub lines : List Run → List ℕ
 lines [] = []
@@ -24,12 +21,11 @@ lines (r ∷ rs) = line r ++ lines rs
 abbrev pub shuts : ℕ → Bool
 shuts n = not (eqb n 0) && leb n 4
 
-abbrev pub opening_by : Configured → ℕ → Opening
-opening_by (Ok w) n = cond (shuts n) Refused (Shown w)
-opening_by InvalidConfiguration n = Refused
-opening_by GptNotInitialized n = Refused
+abbrev pub opening_by : Result Widths ConfigError → ℕ → Option Widths
+opening_by (Ok w) n = cond (shuts n) None (Some w)
+opening_by (Err e) n = None
 
-abbrev pub opening_of : Config → ℕ → Opening
+abbrev pub opening_of : Config → ℕ → Option Widths
 opening_of c n = opening_by (configured_of c) n
 
 -- the number that a lookup of address 0 answers
@@ -41,9 +37,9 @@ abbrev pub refused_line : ℕ → List ℕ
 refused_line n = told (ascii "refused ") n
 
 -- the header, then one line for each run of equal answers, from address 0 to the last one below 2^PPS
-abbrev pub shown_text : Lent → Opening → List ℕ
-shown_text q (Shown w) = header w ++ lines (from (lookup_of q) 0 (total w))
-shown_text q Refused = refused_line (first_number q)
+abbrev pub shown_text : Lent → Option Widths → List ℕ
+shown_text q (Some w) = header w ++ lines (from (lookup_of q) 0 (total w))
+shown_text q None = refused_line (first_number q)
 
 -- of what is lent
 unfoldable pub table_text : Lent → List ℕ
@@ -57,9 +53,9 @@ bad_line n = told (ascii "bad image ") n
 abbrev pub lent_by : List ℕ → Image → Lent
 lent_by s f = lent f.config (l0_words s f) (arena_words s f) f.base.0
 
-abbrev pub image_text : List ℕ → Read → List ℕ
-image_text s (Bad f) = bad_line (fault_number f)
-image_text s (Whole f) = table_text (lent_by s f)
+abbrev pub image_text : List ℕ → Result Image Fault → List ℕ
+image_text s (Err f) = bad_line (fault_number f)
+image_text s (Ok f) = table_text (lent_by s f)
 
 -- what is printed for the bytes on standard input
 unfoldable pub dump_text : List ℕ → List ℕ

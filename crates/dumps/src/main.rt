@@ -5,6 +5,59 @@
 use std::rt::Files;
 use std::{fs, io};
 
+// The images, in the order in which their dumps are written.
+const IMAGES: [&str; 41] = [
+    // versions
+    "empty.gpt",
+    "version_0.gpt",
+    "version_2.gpt",
+    // shorts
+    "version_only.gpt",
+    "head_cut.gpt",
+    "word_cut.gpt",
+    "no_words.gpt",
+    "short_and_long.gpt",
+    // counts
+    "l0_65.gpt",
+    "arena_4097.gpt",
+    "counts_most.gpt",
+    // lengths
+    "length_53.gpt",
+    "length_most.gpt",
+    "byte_more.gpt",
+    "bad_and_off.gpt",
+    "largest_more.gpt",
+    "largest_much_more.gpt",
+    // fields
+    "pps_7.gpt",
+    "pgs_3.gpt",
+    "l0gptsz_1.gpt",
+    "widths.gpt",
+    "off.gpt",
+    // lent
+    "few.gpt",
+    "pps_6.gpt",
+    "base_odd.gpt",
+    "base_high.gpt",
+    "base_most.gpt",
+    // blocks
+    "b.gpt",
+    "largest.gpt",
+    "top.gpt",
+    "surplus.gpt",
+    "gpis.gpt",
+    "plain.gpt",
+    "features.gpt",
+    // tables
+    "kinds.gpt",
+    "granules_4k.gpt",
+    "granules_16k.gpt",
+    "granules_64k.gpt",
+    "offset.gpt",
+    "merged.gpt",
+    "wide.gpt",
+];
+
 // An image's name on a line, and its dump.
 fn show(rt: &(impl Files + Print + Eprint), path: &str) -> io::Result<()> {
     let mut f = match fs::open(rt, path) {
@@ -20,78 +73,9 @@ fn show(rt: &(impl Files + Print + Eprint), path: &str) -> io::Result<()> {
     Ok(())
 }
 
-fn versions(rt: &(impl Files + Print + Eprint)) -> io::Result<()> {
-    show(rt, "empty.gpt")?;
-    show(rt, "version_0.gpt")?;
-    show(rt, "version_2.gpt")
-}
-
-fn shorts(rt: &(impl Files + Print + Eprint)) -> io::Result<()> {
-    show(rt, "version_only.gpt")?;
-    show(rt, "head_cut.gpt")?;
-    show(rt, "word_cut.gpt")?;
-    show(rt, "no_words.gpt")?;
-    show(rt, "short_and_long.gpt")
-}
-
-fn counts(rt: &(impl Files + Print + Eprint)) -> io::Result<()> {
-    show(rt, "l0_65.gpt")?;
-    show(rt, "arena_4097.gpt")?;
-    show(rt, "counts_most.gpt")
-}
-
-fn lengths(rt: &(impl Files + Print + Eprint)) -> io::Result<()> {
-    show(rt, "length_53.gpt")?;
-    show(rt, "length_most.gpt")?;
-    show(rt, "byte_more.gpt")?;
-    show(rt, "bad_and_off.gpt")?;
-    show(rt, "largest_more.gpt")?;
-    show(rt, "largest_much_more.gpt")
-}
-
-fn fields(rt: &(impl Files + Print + Eprint)) -> io::Result<()> {
-    show(rt, "pps_7.gpt")?;
-    show(rt, "pgs_3.gpt")?;
-    show(rt, "l0gptsz_1.gpt")?;
-    show(rt, "widths.gpt")?;
-    show(rt, "off.gpt")
-}
-
-fn lent(rt: &(impl Files + Print + Eprint)) -> io::Result<()> {
-    show(rt, "few.gpt")?;
-    show(rt, "pps_6.gpt")?;
-    show(rt, "base_odd.gpt")?;
-    show(rt, "base_high.gpt")?;
-    show(rt, "base_most.gpt")
-}
-
-fn blocks(rt: &(impl Files + Print + Eprint)) -> io::Result<()> {
-    show(rt, "b.gpt")?;
-    show(rt, "largest.gpt")?;
-    show(rt, "top.gpt")?;
-    show(rt, "surplus.gpt")?;
-    show(rt, "gpis.gpt")?;
-    show(rt, "plain.gpt")?;
-    show(rt, "features.gpt")
-}
-
-fn tables(rt: &(impl Files + Print + Eprint)) -> io::Result<()> {
-    show(rt, "kinds.gpt")?;
-    show(rt, "granules_4k.gpt")?;
-    show(rt, "granules_16k.gpt")?;
-    show(rt, "granules_64k.gpt")?;
-    show(rt, "offset.gpt")?;
-    show(rt, "merged.gpt")?;
-    show(rt, "wide.gpt")
-}
-
 fn main(rt: HostRuntime) -> io::Result<()> {
-    versions(&rt)?;
-    shorts(&rt)?;
-    counts(&rt)?;
-    lengths(&rt)?;
-    fields(&rt)?;
-    lent(&rt)?;
-    blocks(&rt)?;
-    tables(&rt)
+    for path in IMAGES {
+        show(&rt, path)?;
+    }
+    Ok(())
 }

@@ -3,46 +3,37 @@
 #![tactic(auto)]
 
 ghost use Rattle.std.specs.Prelude.{◌≡◌, true};
+ghost use Rattle.std.specs.Result.{result_ok};
 ghost use Rattle.gpi.specs.Gpi.{num, gpi_at, known_at};
 ghost use Rattle.gpi.specs.Size.{size_num, size_at, bytes_of, smaller_of};
 
-// Which world may use a granule: the eleven granule protection information values.
-#[derive(Clone, Copy)]
+// Which world may use a granule: the eleven granule protection information values, by their numbers.
+#[derive(Clone, Copy, PartialEq, Eq)]
 pub enum Gpi {
-    NoAccess,
-    SystemAgent,
-    NonSecureProtected,
-    NoAccess6,
-    NoAccess7,
-    Secure,
-    NonSecure,
-    Root,
-    Realm,
-    NonSecureOnly,
-    Any,
+    NoAccess = 0,
+    SystemAgent = 4,
+    NonSecureProtected = 5,
+    NoAccess6 = 6,
+    NoAccess7 = 7,
+    Secure = 8,
+    NonSecure = 9,
+    Root = 10,
+    Realm = 11,
+    NonSecureOnly = 13,
+    Any = 15,
 }
 
-// What a number is as a GPI.
-#[derive(Clone, Copy)]
-pub enum Nibble {
-    Known(Gpi),
-    Reserved,
-}
-
-// The range that a contiguous descriptor speaks for.
-#[derive(Clone, Copy)]
+// The range that a contiguous descriptor speaks for, by its code there.
+#[derive(Clone, Copy, PartialEq, Eq)]
 pub enum Size {
-    MB2,
-    MB32,
-    MB512,
+    MB2 = 1,
+    MB32 = 2,
+    MB512 = 3,
 }
 
-// A size, where there is one.
-#[derive(Clone, Copy)]
-pub enum SizeCode {
-    Is(Size),
-    None,
-}
+// A number that is no GPI's, or no size's: "unknown nibble or size refuses".
+#[derive(Clone, Copy, PartialEq, Eq)]
+pub struct Unknown;
 
 // The nibbles that stand for a GPI. Each use of a constant array builds it anew, by three stores.
 pub const VALID: [bool; 16] = [
@@ -65,6 +56,7 @@ pub const VALID: [bool; 16] = [
 ];
 
 // Whether a number is a GPI's.
+#[inline(always)]
 pub fn is_valid(n: u64) -> bool
     ensures { result ≡ known_at n }
 {
@@ -77,25 +69,17 @@ pub fn is_valid(n: u64) -> bool
 }
 
 // The number of a GPI.
-pub fn number(g: Gpi) -> u64
-    ensures { result ≡ num g }
-{
-    match g {
-        Gpi::NoAccess => 0,
-        Gpi::SystemAgent => 4,
-        Gpi::NonSecureProtected => 5,
-        Gpi::NoAccess6 => 6,
-        Gpi::NoAccess7 => 7,
-        Gpi::Secure => 8,
-        Gpi::NonSecure => 9,
-        Gpi::Root => 10,
-        Gpi::Realm => 11,
-        Gpi::NonSecureOnly => 13,
-        Gpi::Any => 15,
+impl From<Gpi> for u64 {
+    ghost from_gives = { λ g n. n ≡ num g };
+
+    #[inline(always)]
+    fn from(g: Gpi) -> u64 {
+        g as u64
     }
 }
 
-// The GPI of a known number.
+// The GPI of a known number. Apart from `TryFrom`, since the table of nibbles says whether there is one, and that is asked alone too.
+#[inline(always)]
 fn gpi_named(n: u64) -> Gpi
     requires { known_at n ≡ true }
     ensures { n ≡ num result }
@@ -116,57 +100,68 @@ fn gpi_named(n: u64) -> Gpi
 }
 
 // The GPI of a number: the table says whether there is one.
-pub fn gpi_of(n: u64) -> Nibble
-    ensures { result ≡ gpi_at n }
-{
-    if is_valid(n) {
-        Nibble::Known(gpi_named(n))
-    } else {
-        Nibble::Reserved
+impl TryFrom<u64> for Gpi {
+    type Error = Unknown;
+
+    ghost try_from_gives = { λ n r. result_ok r ≡ gpi_at n };
+
+    #[inline(always)]
+    fn try_from(n: u64) -> Result<Gpi, Unknown> {
+        if is_valid(n) {
+            Ok(gpi_named(n))
+        } else {
+            Err(Unknown)
+        }
     }
 }
 
 // The code of a size in a contiguous descriptor.
-pub fn size_number(s: Size) -> u64
-    ensures { result ≡ size_num s }
-{
-    match s {
-        Size::MB2 => 1,
-        Size::MB32 => 2,
-        Size::MB512 => 3,
+impl From<Size> for u64 {
+    ghost from_gives = { λ s n. n ≡ size_num s };
+
+    #[inline(always)]
+    fn from(s: Size) -> u64 {
+        s as u64
     }
 }
 
 // The size of a code.
-pub fn size_of(n: u64) -> SizeCode
-    ensures { result ≡ size_at n }
-{
-    match n {
-        1 => SizeCode::Is(Size::MB2),
-        2 => SizeCode::Is(Size::MB32),
-        3 => SizeCode::Is(Size::MB512),
-        _ => SizeCode::None,
+impl TryFrom<u64> for Size {
+    type Error = Unknown;
+
+    ghost try_from_gives = { λ n r. result_ok r ≡ size_at n };
+
+    #[inline(always)]
+    fn try_from(n: u64) -> Result<Size, Unknown> {
+        match n {
+            1 => Ok(Size::MB2),
+            2 => Ok(Size::MB32),
+            3 => Ok(Size::MB512),
+            _ => Err(Unknown),
+        }
     }
 }
 
-// The size in bytes.
-pub fn size_bytes(s: Size) -> u64
-    ensures { result ≡ bytes_of s }
-{
-    match s {
-        Size::MB2 => 0x20_0000,
-        Size::MB32 => 0x200_0000,
-        Size::MB512 => 0x2000_0000,
+impl Size {
+    // The size in bytes.
+    pub fn bytes(self) -> u64
+        ensures { result ≡ bytes_of self }
+    {
+        match self {
+            Size::MB2 => 0x20_0000,
+            Size::MB32 => 0x200_0000,
+            Size::MB512 => 0x2000_0000,
+        }
     }
-}
 
-// The next smaller size; 2 MB has none.
-pub fn next_smaller(s: Size) -> SizeCode
-    ensures { result ≡ smaller_of s }
-{
-    match s {
-        Size::MB2 => SizeCode::None,
-        Size::MB32 => SizeCode::Is(Size::MB2),
-        Size::MB512 => SizeCode::Is(Size::MB32),
+    // The next smaller size; 2 MB has none.
+    pub fn next_smaller(self) -> Option<Size>
+        ensures { result ≡ smaller_of self }
+    {
+        match self {
+            Size::MB2 => None,
+            Size::MB32 => Some(Size::MB2),
+            Size::MB512 => Some(Size::MB32),
+        }
     }
 }

@@ -12,9 +12,10 @@ use Rattle.resolve.specs.Refusals.{arena_bad, outside}
 use Rattle.resolve.specs.Place.{site_of, located, place_of}
 use Rattle.resolve.specs.Lent.{lent}
 use Rattle.resolve.specs.B.{fields_b, l0_b, arena_b, arrangement_b, in_b}
-use Rattle.gpt.specs.declared.Looked.{Looked}
-use Rattle.gpt.specs.declared.Looked.TheVariants.{Ok}
 use Rattle.gpt.specs.Lookup.{looked_number, looked_gpi, looked_at, lookup_of}
+use Rattle.std.specs.Prelude.{Ok, Result}
+use Rattle.gpi.specs.declared.Gpi.{Gpi}
+use Rattle.resolve.specs.declared.Refusal.{Refusal}
 
 -- what must open for a lookup to be computed
 unfoldable pub opened : ℕ
@@ -22,7 +23,7 @@ unfolding nibs l0_of l1_of configured_of arena_bad outside site_of located place
 opened = 0
 
 -- B with this word first in the arena, which is the word of 0x40000000 to 0x400FFFFF
-abbrev with : ℕ → ℕ → Looked
+abbrev with : ℕ → ℕ → Result Gpi Refusal
 with v x = lookup_of (in_b (set arena_b 0 v)) x
 
 -- ---- the other refusals that a lookup has, and no GPI with them

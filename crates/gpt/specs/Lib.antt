@@ -1,3 +1,4 @@
 pub mod Lookup
 pub mod Set
 pub mod Inner
+pub mod Lends

@@ -1,8 +1,8 @@
 -- Laws of `granules`: a word is its list of nibbles, and a list of nibbles its word.
 use mathlib.Core.Path.{◌≡◌, refl, sym, ap, ap₂, ◌∙◌, subst}
 use mathlib.Core.List.{List, [], ◌∷◌}
-use mathlib.Core.Bool.{Bool, true, false}
-use Prim.Native.Nat.{ℕ, zero, suc, ◌+◌, ◌-◌, ◌*◌, ◌/◌, ◌%◌, ◌^◌, ◌≤◌, ◌<◌}
+use mathlib.Core.Bool.{Bool, true, false, and-false}
+use Prim.Native.Nat.{ℕ, zero, suc, ◌+◌, ◌-◌, ◌*◌, ◌/◌, ◌%◌, ◌^◌, ◌<◌}
 use native.Mathlib.Nat.{pow-suc, pow-succ', div-one, div-div-eq-div-mul, mul_assoc, mul-zero, mul-add, div-lt_iff_lt-mul}
 use native.Mathlib.Nat.{le_of_suc-le-suc, not-suc-le-zero}
 use native.Mathlib.Omega.{arith}
@@ -99,6 +99,16 @@ all_set f (y ∷ l) (suc i) x h t =
     let b = and_both (f y) (all f l) t in
     rw b.0 (all_set f l i x h b.1)
 
+-- it passes at each, or fails at one
+pub all_each : (f : ℕ → Bool) (l : List ℕ) → ((i : ℕ) → i < length l → f (get_or l i 0) ≡ true) → all f l ≡ true
+all_each f [] h = refl
+all_each f (x ∷ l) h = rw (h 0 (omega arith), all_each f l (λ i k. h (suc i) (omega arith)))
+
+pub all_fails : (f : ℕ → Bool) (l : List ℕ) (i : ℕ) → i < length l → f (get_or l i 0) ≡ false → all f l ≡ false
+all_fails f [] i h e = absurd (not-suc-le-zero h)
+all_fails f (x ∷ l) zero h e = rw e
+all_fails f (x ∷ l) (suc i) h e = rw (all_fails f l i (le_of_suc-le-suc h) e, and-false)
+
 -- ---- one nibble throughout
 
 pub word-replicate : (n x : ℕ) → word (replicate n x) ≡ x * word (replicate n 1)
@@ -156,15 +166,7 @@ repeat16 x = word-replicate 16 x ∙ ap (λ (k : ℕ). x * k) ones16
 pub alike16 : (w x : ℕ) → w < 2 ^ 64 → x < 16 → all (eqb x) (nibs 16 w) ≡ eqb w (x * 0x1111111111111111)
 alike16 w x hw hx = alike 16 w x hw hx ∙ ap (λ (k : ℕ). eqb w (x * k)) ones16
 
--- ---- a walk over the nibbles, lowest first: n to go, and v is what is left
+-- ---- the test of a word by its lowest nibble
 
-module _ (f : ℕ → Bool) (n v : ℕ) where
-  pub walk_end : n ≤ 0 → all f (nibs n v) ≡ true
-  unfolding nibs
-  walk_end h = let e : n ≡ 0 = omega arith in rw e
-
-  pub walk_miss : 0 < n → f (v % 16) ≡ false → all f (nibs n v) ≡ false
-  walk_miss h e = rw (nibs-step n v h, e)
-
-  pub walk_hit : 0 < n → f (v % 16) ≡ true → all f (nibs n v) ≡ all f (nibs (n - 1) (v / 16))
-  walk_hit h e = rw (nibs-step n v h, e)
+pub walk_miss : (f : ℕ → Bool) (n v : ℕ) → 0 < n → f (v % 16) ≡ false → all f (nibs n v) ≡ false
+walk_miss f n v h e = rw (nibs-step n v h, e)

@@ -1,23 +1,29 @@
--- Laws of `granules`: sixteen GPIs and their word, the loops that make the one from the other, and the way there and back; one GPI sixteen
--- times.
-use mathlib.Core.Path.{◌≡◌, refl, sym, ap, ap₂, ◌∙◌, subst}
-use mathlib.Core.List.{List, [], ◌∷◌, ◌++◌, map, append_assoc, append-nil}
+-- Laws of `granules`: sixteen GPIs and their word, the fold and the calls that make the one from the other, and the way there and back; one
+-- GPI sixteen times.
+use mathlib.Core.Path.{◌≡◌, refl, sym, ap, ap₂, ◌∙◌}
+use mathlib.Core.List.{List, [], ◌∷◌, map, reverse}
 use mathlib.Core.Bool.{true}
-use Prim.Native.Nat.{ℕ, suc, ◌+◌, ◌-◌, ◌*◌, ◌/◌, ◌%◌, ◌^◌, ◌≤◌, ◌<◌}
-use native.Mathlib.Nat.{lt_of_lt_of_le, pow-le-pow_right}
-use native.Mathlib.Numerals.{add-one}
+use Prim.Native.Nat.{ℕ, zero, suc, ◌+◌, ◌*◌, ◌/◌, ◌%◌, ◌^◌, ◌≤◌, ◌<◌}
+use native.Mathlib.Decide.{ℕ_discrete}
+use native.Mathlib.Nat.{pow-le-pow_right, mod-eq_of_lt}
 use native.Mathlib.Omega.{arith}
 use lib.Dec.{lit<}
-use lib.ListN.{length, get_or, set, take, drop, length-drop, length-set, length-map, replicate, get_or-replicate}
-use lib.Seq.{drop-cons, drop-length, take-suc-set, take_all}
+use lib.ListN.{length, get_or, length-map, replicate, get_or-replicate}
+use denote.Param.Members.{Mut, Called}
+use Rattle.std.specs.Array.{IsFromFnResult, IsFromFnResultFrom}
+use Rattle.std.specs.List.{fold}
+use Rattle.std.proofs.lemmas.List.{same_lists, get_or-map}
+use Rattle.std.proofs.lemmas.List.Sums.{fold_push}
+use Rattle.std.proofs.lemmas.Grind.{reverse_onto}
 use Rattle.gpi.specs.declared.Gpi.{Gpi}
-use Rattle.gpi.specs.declared.Nibble.{Nibble}
 use Rattle.gpi.specs.Gpi.{num, gpi_at, known_at}
 use Rattle.gpi.proofs.Rules.{num-lt, gpi-num, named}
 use Rattle.gpi.proofs.Table.{and_both}
 use Rattle.granules.specs.Nibs.{nib, nibs, word, all}
 use Rattle.granules.specs.Packed.{granule_word, gpis_of, or_no_access, repeated}
-use Rattle.granules.proofs.Digits.{Small, nibs-step, word_lt, nibs-word, repeat16, nibs-replicate, get_or-nibs}
+use Rattle.granules.proofs.Digits.{Small, length-nibs, word_lt, nibs-word, repeat16, nibs-replicate, get_or-nibs}
+use Rattle.granules.proofs.Store.{shifted-nib}
+use Rattle.std.specs.Prelude.{Option}
 
 small_nums : (l : List Gpi) → Small (map num l)
 small_nums [] = tt
@@ -29,53 +35,62 @@ known_nums (g ∷ l) = rw (gpi-num g) (known_nums l)
 
 -- ---- making a word, from the last GPI to the first
 
-module _ (d : Gpi) (a : List Gpi) (n : ℕ) (h : 0 < n) (l : n ≤ length a) where
-  pub pack : granule_word (drop (n - 1) a) ≡ num (get_or a (n - 1) d) + granule_word (drop n a) * 16
-  unfolding word
-  pack =
-      let e : suc (n - 1) ≡ n = omega arith in
-      ap granule_word (drop-cons a (n - 1) d (omega arith))
-      ∙ ap (λ (k : ℕ). num (get_or a (n - 1) d) + granule_word (drop k a) * 16) e
+-- one more GPI, below those that the word has
+abbrev pub below : ℕ → Gpi → ℕ
+below w g = num g + w * 16 % 2 ^ 64
 
-pub pack_lt : (a : List Gpi) (n : ℕ) → length a ≡ 16 → granule_word (drop n a) < 2 ^ 64
-pack_lt a n e =
-    lt_of_lt_of_le (word_lt (map num (drop n a)) (small_nums (drop n a)))
-    (pow-le-pow_right {n = 16} (lit< tt) {j = 16} (simp (length-map, length-drop) (omega arith)))
+-- of fifteen GPIs nothing is shifted out
+roomy : (l : List Gpi) → length l < 16 → granule_word l * 16 < 2 ^ 64
+roomy l h =
+    let b = word_lt (map num l) (small_nums l) in
+    let p : 16 ^ length (map num l) ≤ 16 ^ 15 = pow-le-pow_right {n = 16} (lit< tt) {j = 15} (simp length-map (omega arith)) in
+    omega arith
 
-pub pack_none : (a : List Gpi) → length a ≡ 16 → granule_word (drop 16 a) ≡ 0
+pub packed : (l : List Gpi) → length l ≤ 16 → fold below 0 (reverse l) ≡ granule_word l
 unfolding word
-pack_none a e = ap granule_word (subst (λ (k : ℕ). drop k a ≡ []) e (drop-length a))
+packed [] h = refl
+packed (g ∷ l) h =
+    let r = roomy l (omega arith) in
+    let ih = packed l (omega arith) in
+    ap (fold below 0) (reverse_onto l g [])
+    ∙ fold_push below 0 (reverse l) g
+    ∙ ap (λ (n : ℕ). num g + n) (ap (λ (n : ℕ). n * 16 % 2 ^ 64) ih ∙ mod-eq_of_lt r)
 
--- ---- taking a word apart, from the first GPI to the last
+-- ---- taking a word apart
 
 abbrev back : ℕ → Gpi
 back n = or_no_access (gpi_at n)
 
--- where a walk that has stored n GPIs stands: those, and the GPIs of what is left of v, are l
-abbrev pub Taking : List Gpi → List Gpi → ℕ → ℕ → Type 0
-Taking l a v n = (n ≤ 16) × (length a ≡ 16) × (take n a ++ map (λ x. or_no_access (gpi_at x)) (nibs (16 - n) v) ≡ l)
+-- an array made by calls that leave the closure as it was and give the GPI of each nibble
+module _ {F : Type 0} (g : Mut F (ℕ × Unit {0}) Gpi) (f : F) (w : ℕ) (a : List Gpi) (made : IsFromFnResult g f a 16)
+    (call : (i : ℕ) (y : Gpi) (q : F) → Called g f (i, tt) y q → (q ≡ f) × (y ≡ back (w / 2 ^ (4 * i) % 16))) where
+  calls : (n i : ℕ) (p : F) → p ≡ f → IsFromFnResultFrom g p a i n → (k : ℕ) (d : Gpi) → i ≤ k → k < i + n
+      → get_or a k d ≡ back (nib w k)
+  calls zero i p e r k d lo hi = absurd (omega arith)
+  calls (suc n) i p e r k d lo hi =
+      let c = call i r.1 r.0 (rw e at r.3) in
+      go (ℕ_discrete k i) c (λ (h : i < k). calls n (i + 1) r.0 c.0 r.4 k d (omega arith) (omega arith))
+    where
+      go : Dec (k ≡ i) → (r.0 ≡ f) × (r.1 ≡ back (w / 2 ^ (4 * i) % 16)) → (i < k → get_or a k d ≡ back (nib w k))
+          → get_or a k d ≡ back (nib w k)
+      go (yes q) c ih = rw q (r.2.1 d ∙ c.1 ∙ ap back (shifted-nib w i))
+      go (no q) c ih = ih (omega arith)
 
-pub take-one : (l a : List Gpi) (v n : ℕ) → n < 16 → Taking l a v n → Taking l (set a n (back (v % 16))) (v / 16) (n + 1)
-take-one l a v n h t =
-    let s : take (n + 1) (set a n (back (v % 16))) ≡ take n a ++ (back (v % 16) ∷ []) =
-    ap (λ (k : ℕ). take k (set a n (back (v % 16)))) (add-one n) ∙ take-suc-set a n (back (v % 16)) (omega arith) in
-    let k : 16 - (n + 1) ≡ 16 - n - 1 = omega arith in
-    let m : nibs (16 - n) v ≡ v % 16 ∷ nibs (16 - n - 1) (v / 16) = nibs-step (16 - n) v (omega arith) in
-    (omega arith, length-set a n (back (v % 16)) ∙ t.1, rw (s, append_assoc, k) (rw m at t.2))
-
-pub take-end : (l a : List Gpi) (v n : ℕ) → 16 ≤ n → Taking l a v n → a ≡ l
-unfolding nibs
-take-end l a v n h t =
-    let n16 : n ≡ 16 = omega arith in
-    let e : take 16 a ≡ a = take_all 16 a (omega arith) in
-    let q : take 16 a ++ [] ≡ l = subst (λ (m : ℕ). take m a ++ map (λ x. or_no_access (gpi_at x)) (nibs (16 - m) v) ≡ l) n16 t.2 in
-    rw (append-nil, e) at q
+  pub gpis_made : a ≡ gpis_of w
+  unfolding gpis_of
+  gpis_made =
+      same_lists a _ (made.long ∙ sym (length-map (nibs 16 w) back ∙ length-nibs 16 w))
+      (λ k d l.
+      let h : k < 16 = omega (arith, made.long) in
+      calls 16 0 f refl made.each k d (omega arith) (omega arith)
+      ∙ ap back (sym (get_or-nibs 16 w k h))
+      ∙ sym (get_or-map back (nibs 16 w) k 0 d (rw length-nibs h)))
 
 -- ---- the round trips
 
 -- of a word of sixteen GPIs, the GPIs read back have its nibbles as their numbers
 back_num : (n : ℕ) → known_at n ≡ true → num (back n) ≡ n
-back_num n t = named _ n t (λ g e. ap (λ (x : Nibble). num (or_no_access x)) (ap gpi_at e ∙ gpi-num g) ∙ sym e)
+back_num n t = named _ n t (λ g e. ap (λ (x : Option Gpi). num (or_no_access x)) (ap gpi_at e ∙ gpi-num g) ∙ sym e)
 
 pub back_nums : (l : List ℕ) → all known_at l ≡ true → map num (map (λ x. or_no_access (gpi_at x)) l) ≡ l
 back_nums [] t = refl

@@ -1,16 +1,20 @@
 -- Laws of `granules`: the granule store, as the code computes it, is the store in the list of nibbles; and what it leaves.
 use mathlib.Core.Path.{◌≡◌, refl, sym, ap, ap₂, ◌∙◌, subst}
 use mathlib.Core.List.{List}
+use mathlib.Core.Bool.{Bool, true, false}
 use Prim.Native.Nat.{ℕ, zero, suc, ◌+◌, ◌-◌, ◌*◌, ◌/◌, ◌%◌, ◌^◌, ◌≤◌, ◌<◌}
-use native.Mathlib.Nat.{pow-suc, mul-suc, zero-mul, mod-lt}
+use native.Mathlib.Nat.{zero-add, pow-suc, mul-suc, zero-mul, mod-lt}
 use native.Mathlib.Omega.{arith}
 use lib.Pow.{pow-add, shl_exact}
 use lib.Dec.{lit<}
 use lib.ListN.{length, get_or, set, length-set}
 use lib.Seq.{get_or-set_same, get_or-set_other}
-use Rattle.granules.specs.Nibs.{nib, nibs}
+use Rattle.std.specs.Bool.{MatchBool}
+use Rattle.std.specs.List.{range_with_len, AllWithin, HoldsAt}
+use Rattle.std.proofs.lemmas.List.FromFn.{get_or-range_with_len}
+use Rattle.granules.specs.Nibs.{nib, nibs, all}
 use Rattle.granules.specs.Packed.{put}
-use Rattle.granules.proofs.Digits.{Small, length-nibs, small_nibs, get_or-nibs, word-nibs, nibs-word, word_lt, small_set, word_set}
+use Rattle.granules.proofs.Digits.{Small, length-nibs, small_nibs, get_or-nibs, word-nibs, nibs-word, word_lt, small_set, word_set, all_each, all_fails}
 
 -- a shift by 4 * i is by i nibbles
 pub shift16 : (i : ℕ) → 2 ^ (4 * i) ≡ 16 ^ i
@@ -19,6 +23,22 @@ shift16 (suc i) = ap (λ (k : ℕ). 2 ^ k) (mul-suc 4 i) ∙ pow-add 2 (4 * i) 4
 
 pub shifted-nib : (w i : ℕ) → w / 2 ^ (4 * i) % 16 ≡ nib w i
 shifted-nib w i = ap (λ (p : ℕ). w / p % 16) (shift16 i)
+
+-- a test of the nibbles by their places
+module _ (f : ℕ → Bool) (w : ℕ) where
+  at-place : (k : ℕ) → k < 16 → f (get_or (nibs 16 w) k 0) ≡ f (w / 2 ^ (4 * get_or (range_with_len 0 16) k 0) % 16)
+  at-place k h =
+      ap f (get_or-nibs 16 w k h ∙ sym (shifted-nib w k))
+      ∙ ap (λ (i : ℕ). f (w / 2 ^ (4 * i) % 16)) (sym (get_or-range_with_len 0 16 k 0 h ∙ zero-add k))
+
+  pub all-places : (r : Bool)
+      → MatchBool r (AllWithin (λ i. f (w / 2 ^ (4 * i) % 16) ≡ true) (range_with_len 0 16) 0 16)
+      ((k : ℕ) × (k < 16) × HoldsAt (λ i. f (w / 2 ^ (4 * i) % 16) ≡ false) (range_with_len 0 16) k)
+      → r ≡ all f (nibs 16 w)
+  all-places true h =
+      sym (all_each f (nibs 16 w) (λ k l. let b : k < 16 = rw length-nibs at l in at-place k b ∙ h k 0 (omega arith) b))
+  all-places false h =
+      sym (all_fails f (nibs 16 w) h.0 (rw length-nibs h.1) (at-place h.0 h.1 ∙ h.2 0))
 
 -- a nibble shifted to its place loses nothing
 pub shifted_in : (x i : ℕ) → x < 16 → i < 16 → (x * 2 ^ (4 * i)) % 2 ^ 64 ≡ x * 16 ^ i

@@ -2,19 +2,18 @@
 use Rattle.std.specs.Prelude.{ℕ, ◌*◌, List, map, set}
 use Rattle.gpi.specs.declared.Gpi.{Gpi}
 use Rattle.gpi.specs.declared.Gpi.TheVariants.{NoAccess}
-use Rattle.gpi.specs.declared.Nibble.{Nibble}
-use Rattle.gpi.specs.declared.Nibble.TheVariants.{Known, Reserved}
 use Rattle.gpi.specs.Gpi.{num, gpi_at}
 use Rattle.granules.specs.Nibs.{nibs, word}
+use Rattle.std.specs.Prelude.{None, Option, Some}
 
 -- "A word is made from an array of sixteen GPIs and read back into one." A reserved nibble comes back as NoAccess: only of a word of
 -- sixteen GPIs are these its granules (`gpis_nibs` of `l1`).
 abbrev pub granule_word : List Gpi → ℕ
 granule_word gs = word (map num gs)
 
-abbrev pub or_no_access : Nibble → Gpi
-or_no_access (Known g) = g
-or_no_access Reserved = NoAccess
+abbrev pub or_no_access : Option Gpi → Gpi
+or_no_access (Some g) = g
+or_no_access None = NoAccess
 
 unfoldable pub gpis_of : ℕ → List Gpi
 gpis_of w = map (λ n. or_no_access (gpi_at n)) (nibs 16 w)

@@ -2,15 +2,53 @@
 // stored. From table.rs: the descriptors of granules, by value. Which words are such is `l1`'s to say.
 #![tactic(auto)]
 
-ghost use Rattle.std.specs.Prelude.{◌≡◌, ◌<◌, eqb};
+ghost use Rattle.std.specs.Prelude.{◌≡◌, ℕ, ◌%◌, ◌<◌, eqb};
 ghost use Rattle.gpi.specs.Gpi.{num, gpi_at, known_at};
 ghost use Rattle.granules.specs.Nibs.{nib, nibs, all};
 ghost use Rattle.granules.specs.Packed.{granule_word, gpis_of, put, or_no_access};
 
-use gpi::{Gpi, Nibble};
+use gpi::Gpi;
+use std::array;
+use std::marker::Model;
+
+// The place of a granule in its word, from the lowest nibble up. Its value is a number below 16.
+#[derive(Clone, Copy)]
+pub struct GranuleIndex {
+    place: u64,
+}
+
+impl Model for GranuleIndex {
+    ghost Value = { ℕ };
+
+    ghost view = { λ i. i.place };
+
+    ghost inverse = { λ n. record { place = n } };
+
+    ghost invariant = { λ i. i.place < 16 };
+}
+
+impl GranuleIndex {
+    // Of granule n, counted from the first of any word.
+    #[inline(always)]
+    pub fn of(n: u64) -> GranuleIndex
+        ensures { result ≡ n % 16 }
+    {
+        GranuleIndex { place: n % 16 }
+    }
+}
+
+impl From<GranuleIndex> for u64 {
+    ghost from_gives = { λ i n. n ≡ i };
+
+    #[inline(always)]
+    fn from(i: GranuleIndex) -> u64 {
+        i.place
+    }
+}
 
 // Whether each of the sixteen nibbles is a GPI's, by one test of them all. A nibble is reserved where its bits 2 and 3 are off and bit 0 or
 // 1 is on (1, 2, 3), or where bits 2 and 3 are on and bit 0 is off (12, 14). Each bit is brought to the lowest place of its nibble.
+#[inline(always)]
 pub fn all_valid(w: u64) -> bool
     ensures { result ≡ all known_at (nibs 16 w) }
 {
@@ -23,78 +61,48 @@ pub fn all_valid(w: u64) -> bool
 }
 
 // Whether all sixteen nibbles are this GPI.
-#[tactic(auto, using(std::proofs::lemmas::Bool::Decides::nat_tests, crate::proofs::Digits::walk_miss))]
 pub fn all_gpi(w: u64, g: Gpi) -> bool
     ensures { result ≡ all (eqb (num g)) (nibs 16 w) }
 {
-    let x = gpi::number(g);
-    let mut v = w;
-    let mut n: u64 = 16;
-    while 0 < n {
-        if x == v % 16 {
-            v = v / 16;
-            n -= 1;
-        } else {
-            return false;
-        }
-    }
-    true
+    let x = u64::from(g);
+    (0u64..16).all(|i| x == (w >> (4 * i)) % 16)
 }
 
 // The word of sixteen GPIs.
 pub fn granule(gpis: [Gpi; 16]) -> u64
     ensures { result ≡ granule_word gpis }
 {
-    let mut w: u64 = 0;
-    let mut n: usize = 16;
-    while 0 < n {
-        n -= 1;
-        let g = gpis[n];
-        w = gpi::number(g) + w * 16;
-    }
-    w
+    gpis.iter().rev().fold(0, |w, g| u64::from(*g) + (w << 4))
 }
 
-// A nibble's GPI; a reserved one permits no access.
+// A nibble's GPI; a reserved one permits no access. Named, since the definition is: in the call of `from_fn` it would be no plainer.
 fn gpi_or_no_access(n: u64) -> Gpi
     ensures { result ≡ or_no_access (gpi_at n) }
 {
-    match gpi::gpi_of(n) {
-        Nibble::Known(g) => g,
-        Nibble::Reserved => Gpi::NoAccess,
-    }
+    Gpi::try_from(n).unwrap_or(Gpi::NoAccess)
 }
 
-// The sixteen GPIs of a word. `l1::l1_entry` says whether they are its granules.
+// The sixteen GPIs of a word. `l1::L1Entry` says whether they are its granules.
 pub fn gpis(w: u64) -> [Gpi; 16]
     ensures { result ≡ gpis_of w }
 {
-    let mut a = [Gpi::NoAccess; 16];
-    let mut v = w;
-    let mut n: usize = 0;
-    while n < 16 {
-        a[n] = gpi_or_no_access(v % 16);
-        v = v / 16;
-        n += 1;
-    }
-    a
+    array::from_fn(|i| gpi_or_no_access((w >> (4 * i)) % 16))
 }
 
 // Granule i of a word of sixteen GPIs.
-pub fn gpi_at(w: u64, i: u64) -> Nibble
-    requires { i < 16 }
+#[inline(always)]
+pub fn gpi_at(w: u64, i: GranuleIndex) -> Option<Gpi>
     ensures { result ≡ gpi_at (nib w i) }
 {
-    gpi::gpi_of((w >> (4 * i)) % 16)
+    Gpi::try_from((w >> (4 * i.place)) % 16).ok()
 }
 
 // The granule store: the word with granule i made g.
-pub fn set_gpi(w: u64, i: u64, g: Gpi) -> u64
-    requires { i < 16 }
+pub fn set_gpi(w: u64, i: GranuleIndex, g: Gpi) -> u64
     ensures { result ≡ put w i (num g) }
 {
-    let n = gpi::number(g);
-    let s = 4 * i;
+    let n = u64::from(g);
+    let s = 4 * i.place;
     let old = (w >> s) % 16;
     w - (old << s) + (n << s)
 }

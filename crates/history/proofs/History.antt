@@ -9,6 +9,7 @@ use native.Mathlib.Omega.{arith}
 use borrow.Author.Tests.{eq-eqb, ne_eqb, ltb-true, ltb-false}
 use lib.Dec.{eqb, ltb}
 use lib.ListN.{take}
+use Rattle.std.specs.Prelude.{Err, Ok, Result}
 use Rattle.gpi.specs.Gpi.{gpi_at}
 use Rattle.theory.specs.Stores.{apply}
 use Rattle.theory.specs.Events.{stores}
@@ -18,7 +19,6 @@ use Rattle.theory.proofs.Stores.{length-apply}
 use Rattle.theory.proofs.Mend.{length-mend}
 use Rattle.theory.proofs.Whole.{set-whole, mends-whole}
 use Rattle.config.specs.declared.Widths.{Widths}
-use Rattle.config.specs.declared.Configured.TheVariants.{Ok as Configured}
 use Rattle.config.specs.Index.{l0_index, l1_words, granule_bytes}
 use Rattle.config.specs.Format.{format_of}
 use Rattle.config.proofs.Format.{format_laws}
@@ -29,11 +29,8 @@ use Rattle.resolve.specs.Refusals.{refusal_number}
 use Rattle.resolve.specs.Lent.{Lent, placed, table_in, lay_in}
 use Rattle.resolve.proofs.Numbers.{refusal_number_lem}
 use Rattle.resolve.proofs.Found.{Found, found, table_length}
-use Rattle.gpt.specs.declared.Looked.TheVariants.{Ok}
 use Rattle.gpt.specs.Lookup.{lookup_of}
 use Rattle.gpt.specs.Set.{Outcome, changed_stores, target_at, site_events}
-use Rattle.mend.specs.declared.Named.{Named}
-use Rattle.mend.specs.declared.Named.TheVariants.{At, Refused}
 use Rattle.mend.specs.Outcome.{named_by, mended_number, mended_at, mend_of}
 use Rattle.mend.proofs.Sites.{named_in}
 use Rattle.mend.proofs.Lookups.{mend-looks}
@@ -121,7 +118,7 @@ module _ (w : Widths) (S : State) (K : Kept w S) where
     site : (s : Site) × Happened q r.log r.address r.gpi w s (change q r)
     site =
         let p = happened q r.log x r.gpi a.answers in
-        let e : Configured p.0 ≡ Configured w = sym p.2.found.configured ∙ K.sound.configured in
+        let e : Ok p.0 ≡ Ok w = sym p.2.found.configured ∙ K.sound.configured in
         let e : p.0 ≡ w = cc in
         (p.1, subst (λ (v : Widths). Happened q r.log x r.gpi v p.1 o) e p.2)
 
@@ -160,12 +157,12 @@ module _ (w : Widths) (S : State) (K : Kept w S) where
     unfolding act mend_of mended_at
     mend-kept = record { sound = go (named_by (placed q x)) refl; looks = λ y. mend-looks q x n y ∙ K.looks y }
       where
-        go : (p : Named) → named_by (placed q x) ≡ p
+        go : (p : Result Site Refusal) → named_by (placed q x) ≡ p
             → Sound w (mended_at q n (named_by (placed q x))).left (marks (mended_number (mended_at q n (named_by (placed q x))).answer))
-        go (Refused c) e = rw e (refused c)
-        go (At s) e =
+        go (Err c) e = rw e (refused c)
+        go (Ok s) e =
             let p = found q Plain x s (named_in (placed q x) s e) in
-            let k : Configured p.0 ≡ Configured w = sym p.1.configured ∙ K.sound.configured in
+            let k : Ok p.0 ≡ Ok w = sym p.1.configured ∙ K.sound.configured in
             let k : p.0 ≡ w = cc in
             rw e (mend-sound s (subst (λ (v : Widths). Found q x v s) k p.1))
 

@@ -7,6 +7,7 @@ use Prim.Native.Nat.{ℕ, ◌+◌, ◌*◌, ◌<◌}
 use native.Mathlib.Omega.{arith}
 use lib.Dec.{ltb, lit<}
 use lib.ListN.{length, take, length-replicate, get_or-replicate}
+use Rattle.std.specs.Prelude.{Ok}
 use Rattle.gpi.specs.declared.Gpi.TheVariants.{Root, Realm}
 use Rattle.theory.specs.Format.{Format, Laws, gpi}
 use Rattle.theory.specs.Normal.{at, span}
@@ -19,7 +20,6 @@ use Rattle.config.specs.Index.{l1_words}
 use Rattle.config.specs.Format.{format_of}
 use Rattle.config.proofs.Format.{format_laws}
 use Rattle.resolve.specs.B.{fields_b, arena_b, arrangement_b}
-use Rattle.gpt.specs.declared.Looked.TheVariants.{Ok}
 use Rattle.gpt.specs.Lookup.{lookup_of}
 use Rattle.outcomes.specs.Cases.{log}
 use Rattle.outcomes.proofs.Starred.{opened, starred}

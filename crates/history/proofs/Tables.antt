@@ -9,6 +9,7 @@ use native.Mathlib.Omega.{arith}
 use lib.Dec.{lit<}
 use lib.ListN.{length}
 use lib.Pow.{pow_pos}
+use Rattle.std.specs.Prelude.{Ok, Some}
 use Rattle.gpi.specs.declared.Size.TheVariants.{MB2}
 use Rattle.pa.specs.declared.PA.{PA}
 use Rattle.pa.specs.Pa.{pa}
@@ -17,9 +18,8 @@ use Rattle.theory.specs.Whole.{Whole}
 use Rattle.theory.specs.Set.{Agrees}
 use Rattle.theory.proofs.Arena.{length-table, table_other}
 use Rattle.theory.proofs.Whole.{whole_agrees}
-use Rattle.l0.specs.declared.L0Entry.TheVariants.{Table as TableWord}
+use Rattle.l0.specs.declared.L0Entry.TheVariants.{Table}
 use Rattle.config.specs.declared.Widths.{Widths}
-use Rattle.config.specs.declared.Configured.TheVariants.{Ok}
 use Rattle.config.specs.Fields.{configured_of}
 use Rattle.config.specs.Index.{l0_index, l1_words, l1_index, size_words}
 use Rattle.config.specs.Format.{format_of}
@@ -82,7 +82,7 @@ module _ {q : Lent} {marks : ℕ → Bool} {x : ℕ} {w : Widths} {s : Site} (K 
     -- that of x's entry is at the site's start
     lay-own : {o : ℕ} → TableAt w q (l0_index w x) o → o ≡ s.start
     lay-own {o} a =
-        let k : TableWord (pa (q.base + 8 * o)) ≡ TableWord (pa (q.base + 8 * s.start)) = sym a.names ∙ f.entry in
+        let k : Some (Table (pa (q.base + 8 * o))) ≡ Some (Table (pa (q.base + 8 * s.start))) = sym a.names ∙ f.entry in
         let k : pa (q.base + 8 * o) ≡ pa (q.base + 8 * s.start) = cc in
         let k : q.base + 8 * o ≡ q.base + 8 * s.start = ap (λ (a : PA). a.0) k in
         omega arith

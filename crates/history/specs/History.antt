@@ -1,21 +1,18 @@
 -- Demand 3 over time: what every address looks up while sets, sets cut after any number of stores, and mends of any limit follow one
 -- another in one arena. Over the set, lookup and mend that the contracts cite; beside what is lent stand the marks, which L0 entries'
 -- tables are known to be whole, and the ideal, what each address ought to look up as.
-use Rattle.std.specs.Prelude.{◌≡◌, Bool, true, false, cond, not, ◌&&◌, List, [], ◌∷◌, ℕ, ◌/◌, eqb, ltb}
-use Rattle.gpi.specs.declared.Nibble.{Nibble}
-use Rattle.gpi.specs.declared.Nibble.TheVariants.{Known, Reserved}
+use Rattle.std.specs.Prelude.{◌≡◌, Bool, true, false, cond, not, ◌&&◌, List, [], ◌∷◌, ℕ, ◌/◌, eqb, ltb, None, Ok, Option, Result, Some}
+use Rattle.gpi.specs.declared.Gpi.{Gpi}
 use Rattle.gpi.specs.declared.Size.TheVariants.{MB2}
 use Rattle.gpi.specs.Gpi.{gpi_at}
 use Rattle.theory.specs.Arena.{table_at}
 use Rattle.theory.specs.Whole.{Whole}
 use Rattle.config.specs.declared.Widths.{Widths}
-use Rattle.config.specs.declared.Configured.TheVariants.{Ok as Configured}
 use Rattle.config.specs.Fields.{configured_of}
 use Rattle.config.specs.Index.{l0_index, l1_words, granule_bytes, size_words}
 use Rattle.config.specs.Format.{format_of}
+use Rattle.resolve.specs.declared.Refusal.{Refusal}
 use Rattle.resolve.specs.Lent.{Lent}
-use Rattle.gpt.specs.declared.Looked.{Looked}
-use Rattle.gpt.specs.declared.Looked.TheVariants.{Ok}
 use Rattle.gpt.specs.Lookup.{lookup_of}
 use Rattle.gpt.specs.Set.{Outcome, set_of, changed_number}
 use Rattle.mend.specs.Outcome.{mend_of, mended_number}
@@ -55,12 +52,12 @@ act_marks w (mends x n) q s e =
     cond (eqb (mended_number (mend_of q x n).answer) 0 && eqb e (l0_index w x)) (not (ltb n (l1_words w))) (s e)
 
 -- the addresses of x's granule answer this GPI; no set is made of an unknown one
-abbrev pub made : Widths → ℕ → Nibble → (ℕ → Looked) → ℕ → Looked
-made w x (Known g) f y = cond (eqb (y / granule_bytes w) (x / granule_bytes w)) (Ok g) (f y)
-made w x Reserved f y = f y
+abbrev pub made : Widths → ℕ → Option Gpi → (ℕ → Result Gpi Refusal) → ℕ → Result Gpi Refusal
+made w x (Some g) f y = cond (eqb (y / granule_bytes w) (x / granule_bytes w)) (Ok g) (f y)
+made w x None f y = f y
 
 -- the ideal changes at the target granule, and exactly when the granule store is made: of a cut set, where its log has it
-abbrev pub act_ideal : Widths → Act → Lent → (ℕ → Looked) → ℕ → Looked
+abbrev pub act_ideal : Widths → Act → Lent → (ℕ → Result Gpi Refusal) → ℕ → Result Gpi Refusal
 act_ideal w (sets r) q f y = made w r.address (gpi_at r.gpi) f y
 act_ideal w (cuts r k) q f y = cond (ltb (granule_store_after (change q r)) k) (made w r.address (gpi_at r.gpi) f y) (f y)
 act_ideal w (mends x n) q f y = f y
@@ -72,7 +69,7 @@ pub record State : Type 0 where
   -- by L0 entry
   pub marks : ℕ → Bool
   -- by address
-  pub ideal : ℕ → Looked
+  pub ideal : ℕ → Result Gpi Refusal
 
 -- at the start each address ought to look up as it does
 abbrev pub start : Lent → (ℕ → Bool) → State
@@ -108,7 +105,7 @@ Allowed w (a ∷ l) S = May w S a × Allowed w l (act w a S)
 -- w are the widths that the configuration means; the tables of the L0 entries that lie wholly inside the arena share no word, and the
 -- marked ones are whole
 pub record Sound (w : Widths) (q : Lent) (marks : ℕ → Bool) : Type 0 where
-  pub configured : configured_of q.config ≡ Configured w
+  pub configured : configured_of q.config ≡ Ok w
   pub apart : Apart w q
   pub whole : (e o : ℕ) → TableAt w q e o → marks e ≡ true
       → Whole (format_of q.config) (size_words w MB2) (table_at o (l1_words w) q.arena)

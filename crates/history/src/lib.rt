@@ -1,6 +1,2 @@
-// Demand 3 over time: theorems only, see specs/ and proofs/. The code is only what a crate needs to have.
+// Demand 3 over time: theorems only, see specs/ and proofs/. There is no code.
 #![tactic(auto)]
-
-pub fn nothing() -> u8 {
-    0
-}

@@ -2,35 +2,32 @@
 #![tactic(auto)]
 
 ghost use Rattle.std.specs.Prelude.{◌≡◌};
+ghost use Rattle.std.specs.Result.{result_ok};
 ghost use Rattle.l0.specs.L0.{l0_of, block_word, table_word_of};
 
-use gpi::{Gpi, Nibble};
+use gpi::{Gpi, Unknown};
 use pa::PA;
 
-// What a word of the L0 table says. The Rust's `Level0DescriptorRef`.
+// What a valid word of the L0 table says; any other is unknown. The Rust's `Level0DescriptorRef`.
 #[derive(Clone, Copy)]
 pub enum L0Entry {
     Block(Gpi),
     Table(PA),
-    Invalid,
 }
 
-#[derive(Clone, Copy)]
-pub enum TableWord {
-    Word(u64),
-    Refused,
-}
+impl TryFrom<u64> for L0Entry {
+    type Error = Unknown;
 
-pub fn l0_entry(w: u64) -> L0Entry
-    ensures { result ≡ l0_of w }
-{
-    match w % 16 {
-        1 => match gpi::gpi_of((w / 16) % 16) {
-            Nibble::Known(g) => L0Entry::Block(g),
-            Nibble::Reserved => L0Entry::Invalid,
-        },
-        3 => L0Entry::Table(PA(w & 0xF_FFFF_FFFF_F000)),
-        _ => L0Entry::Invalid,
+    ghost try_from_gives = { λ w r. result_ok r ≡ l0_of w };
+
+    #[inline(always)]
+    #[tactic(auto, unfolding(crate::specs::L0::l0_of))]
+    fn try_from(w: u64) -> Result<L0Entry, Unknown> {
+        match w % 16 {
+            1 => Ok(L0Entry::Block(Gpi::try_from((w / 16) % 16)?)),
+            3 => Ok(L0Entry::Table(PA(w & 0xF_FFFF_FFFF_F000))),
+            _ => Err(Unknown),
+        }
     }
 }
 
@@ -38,19 +35,19 @@ pub fn l0_entry(w: u64) -> L0Entry
 pub fn block(g: Gpi) -> u64
     ensures { result ≡ block_word g }
 {
-    gpi::number(g) * 16 + 1
+    u64::from(g) * 16 + 1
 }
 
 // The L0 table word of an address, which must be a multiple of 4,096 below 2^52: the Rust asserts it.
 #[tactic(auto, using(std::proofs::lemmas::Bool::Decides::nat_tests), unfolding(crate::specs::L0::table_word_of))]
-pub fn table(a: PA) -> TableWord
+pub fn table(a: PA) -> Option<u64>
     ensures { result ≡ table_word_of a.0 }
 {
     if a.0 % 4096 != 0 {
-        return TableWord::Refused;
+        return None;
     }
     if 0x10_0000_0000_0000 <= a.0 {
-        return TableWord::Refused;
+        return None;
     }
-    TableWord::Word(a.0 + 3)
+    Some(a.0 + 3)
 }

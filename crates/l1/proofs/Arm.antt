@@ -2,36 +2,34 @@
 use mathlib.Core.Path.{◌≡◌, refl, sym, ap, ◌∙◌}
 use mathlib.Core.List.{List, ◌∷◌, map}
 use mathlib.Core.Bool.{Bool, true, false, cond, ◌&&◌}
-use mathlib.Core.Option.{Option, none, some}
+use mathlib.Core.Option.{Option as Maybe, none, some}
 use Prim.Native.Nat.{ℕ, zero, suc, ◌%◌, ◌^◌, ◌<◌}
 use native.Mathlib.Omega.{arith}
 use borrow.Author.Tests.{eqb-true, eqb-false, eq-eqb, ne_eqb}
 use lib.Dec.{lit<, eqb}
 use lib.ListN.{replicate}
+use Rattle.std.specs.Prelude.{None, Option, Some}
 use Rattle.gpi.specs.declared.Gpi.{Gpi}
 use Rattle.gpi.specs.declared.Size.{Size}
 use Rattle.gpi.specs.declared.Size.TheVariants.{MB2, MB32, MB512}
-use Rattle.gpi.specs.Gpi.{num, known_at}
+use Rattle.gpi.specs.Gpi.{num, gpi_at, known_at}
 use Rattle.gpi.specs.Size.{size_num, bytes_of}
-use Rattle.gpi.proofs.Rules.{num-lt, known_lt, named, size_pos}
+use Rattle.gpi.proofs.Rules.{num-lt, gpi-num, known_lt, named, size_pos}
 use Rattle.gpi.proofs.Table.{apart, and_both}
 use Rattle.theory.specs.Format.{Laws, reads, reading, gpi}
 use Rattle.theory.specs.Normal.{span}
 use Rattle.theory.specs.Set.{bytes}
 use Rattle.granules.specs.Nibs.{nib, nibs, word, all}
 use Rattle.granules.specs.Packed.{repeated, put, granule_word}
-use Rattle.l1.specs.L1.{l1_of, read_of, read_at, contig_word, flat, flat_of, match_at, match_of, same_of}
+use Rattle.l1.specs.L1.{l1_of, read_of, read_at, contig_word, flat, flat_of, match_at, match_of}
 use Rattle.l1.specs.Arm.{valid_of, size_of, level_of, contig_at, arm}
-use Rattle.l1.specs.declared.Reading.{Reading}
-use Rattle.l1.specs.declared.Reading.TheVariants.{Known, Invalid as Unread}
-use Rattle.l1.specs.declared.Match.TheVariants.{Same, Other, Bad}
-use Rattle.l1.specs.declared.L1Entry.{L1Entry}
-use Rattle.l1.specs.declared.L1Entry.TheVariants.{Contiguous, Granules, Invalid}
 use Rattle.granules.proofs.Digits.{nibs-step, alike16, repeat16}
 use Rattle.granules.proofs.Store.{put_same, put_other}
 use Rattle.granules.proofs.Packed.{nib-repeated, repeated_lt}
 use Rattle.l1.proofs.Entries.{granules_known, l1_contig, l1_repeated}
-use Rattle.l1.proofs.Alike.{coarse, l1_flat, flat-idem, entry_reads, num_reads, reads-num, repeated-reads, put-granules, reads-flat}
+use Rattle.l1.proofs.Alike.{coarse, l1_flat, flat-idem, entry_reads, repeated-reads, put-granules, reads-flat}
+use Rattle.l1.specs.declared.L1Entry.{L1Entry}
+use Rattle.l1.specs.declared.L1Entry.TheVariants.{Contiguous, Granules}
 
 -- ---- numbers that are known are those of GPIs, levels those of sizes
 
@@ -56,64 +54,64 @@ contig_is l g s x p q = omega arith
 
 -- ---- a word of granules
 
-low_known : (w : ℕ) → l1_of w ≡ Granules → known_at (w % 16) ≡ true
+low_known : (w : ℕ) → l1_of w ≡ Some Granules → known_at (w % 16) ≡ true
 low_known w e = (and_both (known_at (w % 16)) _ (rw (nibs-step 16 w (lit< tt)) at (granules_known w e))).0
 
 -- a valid word's flat word is one of granules
-flat-granules : (w : ℕ) → valid_of (l1_of w) ≡ true → l1_of (flat w) ≡ Granules
+flat-granules : (w : ℕ) → valid_of (l1_of w) ≡ true → l1_of (flat w) ≡ Some Granules
 flat-granules w v = l1_flat w ∙ go (l1_of w) v
   where
-    go : (e : L1Entry) → valid_of e ≡ true → coarse e ≡ Granules
-    go (Contiguous g s) v = refl
-    go Granules v = refl
-    go Invalid v = apart (cc)
+    go : (e : Option L1Entry) → valid_of e ≡ true → coarse e ≡ Some Granules
+    go (Some (Contiguous g s)) v = refl
+    go (Some Granules) v = refl
+    go None v = apart (cc)
 
-flat-of_granules : (w : ℕ) → l1_of w ≡ Granules → flat w ≡ w
-flat-of_granules w e = ap (λ (x : L1Entry). flat_of x w) e
+flat-of_granules : (w : ℕ) → l1_of w ≡ Some Granules → flat w ≡ w
+flat-of_granules w e = ap (λ (x : Option L1Entry). flat_of x w) e
 
 -- ---- the laws
 
 valid_flat : (w : ℕ) → valid_of (l1_of (flat w)) ≡ valid_of (l1_of w)
 valid_flat w = ap valid_of (l1_flat w) ∙ go (l1_of w)
   where
-    go : (e : L1Entry) → valid_of (coarse e) ≡ valid_of e
-    go (Contiguous g s) = refl
-    go Granules = refl
-    go Invalid = refl
+    go : (e : Option L1Entry) → valid_of (coarse e) ≡ valid_of e
+    go (Some (Contiguous g s)) = refl
+    go (Some Granules) = refl
+    go None = refl
 
 flat-invalid : (w : ℕ) → valid_of (l1_of w) ≡ false → flat w ≡ w
 flat-invalid w v = go (l1_of w) v
   where
-    go : (e : L1Entry) → valid_of e ≡ false → flat_of e w ≡ w
-    go (Contiguous g s) v = apart (cc)
-    go Granules v = refl
-    go Invalid v = refl
+    go : (e : Option L1Entry) → valid_of e ≡ false → flat_of e w ≡ w
+    go (Some (Contiguous g s)) v = apart (cc)
+    go (Some Granules) v = refl
+    go None v = refl
 
 known_low : (w : ℕ) → valid_of (l1_of w) ≡ true → known_at (flat w % 16) ≡ true
 known_low w v = low_known (flat w) (flat-granules w v)
 
 module _ (l g : ℕ) (h : l < 3) (k : known_at g ≡ true) where
-  contig-entry : l1_of (contig_at l g) ≡ Contiguous (gpi-of_known g k).0 (size_of-level l h).0
+  contig-entry : l1_of (contig_at l g) ≡ Some (Contiguous (gpi-of_known g k).0 (size_of-level l h).0)
   contig-entry =
       ap l1_of (contig_is l g (size_of-level l h).0 (gpi-of_known g k).0 (size_of-level l h).1 (gpi-of_known g k).1)
       ∙ l1_contig (size_of-level l h).0 (gpi-of_known g k).0
 
   flat-made : flat (contig_at l g) ≡ repeated g
-  flat-made = ap (λ (e : L1Entry). flat_of e (contig_at l g)) contig-entry ∙ ap repeated (sym (gpi-of_known g k).1)
+  flat-made = ap (λ (e : Option L1Entry). flat_of e (contig_at l g)) contig-entry ∙ ap repeated (sym (gpi-of_known g k).1)
 
   size-made : size_of (l1_of (contig_at l g)) ≡ suc l
   size-made = ap size_of contig-entry ∙ (size_of-level l h).1
 
 -- an entry that has a size code is contiguous, of that size and of the GPI that the theory takes it for
 module _ (w l : ℕ) where
-  pub contiguous : size_of (l1_of w) ≡ suc l → (g : Gpi) × (s : Size) × (l1_of w ≡ Contiguous g s) × (level_of s ≡ l) × (gpi arm w ≡ num g)
+  pub contiguous : size_of (l1_of w) ≡ suc l → (g : Gpi) × (s : Size) × (l1_of w ≡ Some (Contiguous g s)) × (level_of s ≡ l) × (gpi arm w ≡ num g)
   contiguous e = go (l1_of w) refl e
     where
-      go : (x : L1Entry) → l1_of w ≡ x → size_of x ≡ suc l
-          → (g : Gpi) × (s : Size) × (l1_of w ≡ Contiguous g s) × (level_of s ≡ l) × (gpi arm w ≡ num g)
-      go (Contiguous g s) p q = (g, s, p, omega (arith, level_num s), rw p (let h = num-lt g in omega arith))
-      go Granules p q = absurd (omega arith)
-      go Invalid p q = absurd (omega arith)
+      go : (x : Option L1Entry) → l1_of w ≡ x → size_of x ≡ suc l
+          → (g : Gpi) × (s : Size) × (l1_of w ≡ Some (Contiguous g s)) × (level_of s ≡ l) × (gpi arm w ≡ num g)
+      go (Some (Contiguous g s)) p q = (g, s, p, omega (arith, level_num s), rw p (let h = num-lt g in omega arith))
+      go (Some Granules) p q = absurd (omega arith)
+      go None p q = absurd (omega arith)
 
   size_small : size_of (l1_of w) ≡ suc l → l < 3
   size_small e = let c = contiguous e in rw (← c.3) (level_lt c.1)
@@ -122,29 +120,29 @@ module _ (w l : ℕ) where
   size_valid e = ap valid_of (contiguous e).2
 
   size_rep : size_of (l1_of w) ≡ suc l → flat w ≡ repeated (flat w % 16)
-  size_rep e = let c = contiguous e in ap (λ (x : L1Entry). flat_of x w) c.2 ∙ sym (ap repeated c.4)
+  size_rep e = let c = contiguous e in ap (λ (x : Option L1Entry). flat_of x w) c.2 ∙ sym (ap repeated c.4)
 
 size_flat : (w : ℕ) → size_of (l1_of w) ≡ 0 → flat w ≡ w
 size_flat w e = go (l1_of w) e
   where
-    go : (x : L1Entry) → size_of x ≡ 0 → flat_of x w ≡ w
-    go (Contiguous g s) e = let h = size_pos s in absurd (omega arith)
-    go Granules e = refl
-    go Invalid e = refl
+    go : (x : Option L1Entry) → size_of x ≡ 0 → flat_of x w ≡ w
+    go (Some (Contiguous g s)) e = let h = size_pos s in absurd (omega arith)
+    go (Some Granules) e = refl
+    go None e = refl
 
 size_of-flat : (w : ℕ) → size_of (l1_of (flat w)) ≡ 0
 size_of-flat w = ap size_of (l1_flat w) ∙ go (l1_of w)
   where
-    go : (e : L1Entry) → size_of (coarse e) ≡ 0
-    go (Contiguous g s) = refl
-    go Granules = refl
-    go Invalid = refl
+    go : (e : Option L1Entry) → size_of (coarse e) ≡ 0
+    go (Some (Contiguous g s)) = refl
+    go (Some Granules) = refl
+    go None = refl
 
 low_rep : (g : ℕ) → known_at g ≡ true → repeated g % 16 ≡ g
 low_rep g k = let h = known_lt g k in omega arith
 
 module _ (w j g : ℕ) (v : valid_of (l1_of w) ≡ true) (h : j < 16) (k : known_at g ≡ true) where
-  put-entry : l1_of (put (flat w) j g) ≡ Granules
+  put-entry : l1_of (put (flat w) j g) ≡ Some Granules
   put-entry =
       ap (λ (n : ℕ). l1_of (put (flat w) j n)) (gpi-of_known g k).1
       ∙ put-granules (flat w) j (gpi-of_known g k).0 h (flat-granules w v)
@@ -198,48 +196,48 @@ repeated-eqb a b = go (eqb a b) refl
     go false e = ne_eqb (repeated a) (repeated b) (λ q. eqb-false a b e (omega arith))
 
 -- a word against a GPI, as the theory's scan judges it
-pub match_is : (w : ℕ) (g : Gpi) → w < 2 ^ 64 → match_at w g ≡ cond (arm.valid w) (cond (reads arm w (num g)) Same Other) Bad
+pub match_is : (w : ℕ) (g : Gpi) → w < 2 ^ 64 → match_at w g ≡ cond (arm.valid w) (cond (reads arm w (num g)) (Some true) (Some false)) None
 unfolding reads
 match_is w g h = go (l1_of w)
   where
-    same : (b c : Bool) → b ≡ c → same_of c ≡ cond b Same Other
+    same : (b c : Bool) → b ≡ c → Some c ≡ cond b (Some true) (Some false)
     same b true e = rw e
     same b false e = rw e
 
-    go : (e : L1Entry) → match_of e w g ≡ cond (valid_of e) (cond (valid_of e && eqb (flat_of e w) (repeated (num g))) Same Other) Bad
-    go (Contiguous x s) = same (eqb (repeated (num x)) (repeated (num g))) (eqb (num x) (num g)) (repeated-eqb (num x) (num g))
-    go Granules = same (eqb w (repeated (num g))) (all (eqb (num g)) (nibs 16 w)) (sym (alike16 w (num g) h (num-lt g)))
-    go Invalid = refl
+    go : (e : Option L1Entry) → match_of e w g ≡ cond (valid_of e) (cond (valid_of e && eqb (flat_of e w) (repeated (num g))) (Some true) (Some false)) None
+    go (Some (Contiguous x s)) = same (eqb (repeated (num x)) (repeated (num g))) (eqb (num x) (num g)) (repeated-eqb (num x) (num g))
+    go (Some Granules) = same (eqb w (repeated (num g))) (all (eqb (num g)) (nibs 16 w)) (sym (alike16 w (num g) h (num-lt g)))
+    go None = refl
 
 -- what a granule reads, as the theory says it
-abbrev pub reading_of : Option ℕ → Reading
-reading_of (some n) = num_reads n
-reading_of none = Unread
+abbrev pub reading_of : Maybe ℕ → Option Gpi
+reading_of (some n) = gpi_at n
+reading_of none = None
 
 pub read_is : (w n : ℕ) → n < 16 → read_at w n ≡ reading_of (reading arm w n)
 unfolding reading
 read_is w n h = go (l1_of w)
   where
-    go : (e : L1Entry) → read_of e w n ≡ reading_of (cond (valid_of e) (some (nib (flat_of e w) n)) none)
-    go (Contiguous g s) = sym (ap num_reads (nib-repeated (num g) n (num-lt g) h) ∙ reads-num g)
-    go Granules = refl
-    go Invalid = refl
+    go : (e : Option L1Entry) → read_of e w n ≡ reading_of (cond (valid_of e) (some (nib (flat_of e w) n)) none)
+    go (Some (Contiguous g s)) = sym (ap gpi_at (nib-repeated (num g) n (num-lt g) h) ∙ gpi-num g)
+    go (Some Granules) = refl
+    go None = refl
 
 -- a word of 64 bits that reads g in all sixteen granules
-pub reads_all : (v : ℕ) (g : Gpi) → v < 2 ^ 64 → ((n : ℕ) → n < 16 → read_at v n ≡ Known g) → reads arm v (num g) ≡ true
+pub reads_all : (v : ℕ) (g : Gpi) → v < 2 ^ 64 → ((n : ℕ) → n < 16 → read_at v n ≡ Some g) → reads arm v (num g) ≡ true
 unfolding reads
 reads_all v g b r = rw (valid (l1_of v) refl, eq-eqb (flat v) (repeated (num g)) same) refl
   where
-    sound : l1_of v ≡ Invalid → ⊥
-    sound p = let z : Unread ≡ Known g = sym (ap (entry_reads v 0) p) ∙ r 0 (lit< tt) in apart (cc)
+    sound : l1_of v ≡ None → ⊥
+    sound p = let z : None ≡ Some g = sym (ap (entry_reads v 0) p) ∙ r 0 (lit< tt) in apart (cc)
 
-    valid : (e : L1Entry) → l1_of v ≡ e → valid_of e ≡ true
-    valid (Contiguous h s) p = refl
-    valid Granules p = refl
-    valid Invalid p = absurd (sound p)
+    valid : (e : Option L1Entry) → l1_of v ≡ e → valid_of e ≡ true
+    valid (Some (Contiguous h s)) p = refl
+    valid (Some Granules) p = refl
+    valid None p = absurd (sound p)
 
-    granules : l1_of (repeated (num g)) ≡ Invalid → ⊥
-    granules e = let z : Granules ≡ Invalid = sym (l1_repeated g) ∙ e in apart (cc)
+    granules : l1_of (repeated (num g)) ≡ None → ⊥
+    granules e = let z : Some Granules ≡ None = sym (l1_repeated g) ∙ e in apart (cc)
 
     same : flat v ≡ repeated (num g)
     same =

@@ -1,4 +1,5 @@
 pub mod Entries
+pub mod Sized
 pub mod Packed
 pub mod Alike
 pub mod Cases

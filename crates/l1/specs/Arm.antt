@@ -1,6 +1,6 @@
 -- Definitions of `l1`: the Arm format of L1 words, edition 1, as the theory of tables asks for it, from the definitions of `L1`. That its
 -- functions have the theory's laws is shown in `proofs/Arm`.
-use Rattle.std.specs.Prelude.{ℕ, ◌+◌, ◌%◌, Bool, true, false}
+use Rattle.std.specs.Prelude.{ℕ, ◌+◌, ◌%◌, Bool, true, false, None, Option, Some}
 use Rattle.gpi.specs.declared.Size.{Size}
 use Rattle.gpi.specs.declared.Size.TheVariants.{MB2, MB32, MB512}
 use Rattle.gpi.specs.Gpi.{known_at}
@@ -10,18 +10,18 @@ use Rattle.granules.specs.Nibs.{nib}
 use Rattle.granules.specs.Packed.{repeated, put}
 use Rattle.l1.specs.L1.{l1_of, contig_of, flat}
 use Rattle.l1.specs.declared.L1Entry.{L1Entry}
-use Rattle.l1.specs.declared.L1Entry.TheVariants.{Contiguous, Granules, Invalid}
+use Rattle.l1.specs.declared.L1Entry.TheVariants.{Contiguous, Granules}
 
-abbrev pub valid_of : L1Entry → Bool
-valid_of (Contiguous g s) = true
-valid_of Granules = true
-valid_of Invalid = false
+abbrev pub valid_of : Option L1Entry → Bool
+valid_of (Some (Contiguous g s)) = true
+valid_of (Some Granules) = true
+valid_of None = false
 
 -- the size code; 0 where the word isn't contiguous
-abbrev pub size_of : L1Entry → ℕ
-size_of (Contiguous g s) = size_num s
-size_of Granules = 0
-size_of Invalid = 0
+abbrev pub size_of : Option L1Entry → ℕ
+size_of (Some (Contiguous g s)) = size_num s
+size_of (Some Granules) = 0
+size_of None = 0
 
 -- the theory's level of a size: 0, 1, 2 for the codes 1, 2, 3
 abbrev pub level_of : Size → ℕ

@@ -2,51 +2,38 @@
 #![tactic(auto)]
 
 ghost use Rattle.std.specs.Prelude.{◌≡◌, ◌<◌, ◌≤◌};
+ghost use Rattle.std.specs.Result.{result_ok};
 ghost use Rattle.theory.specs.Normal.{span as span_of};
 ghost use Rattle.l1.specs.Arm.{level_of};
-ghost use Rattle.l1.specs.L1.{l1_of, read_nibble, read_at, match_at, contig_word, same_of};
+ghost use Rattle.l1.specs.L1.{l1_of, read_at, match_at, contig_word};
 ghost use Rattle.l1.specs.L1.{flat as flat_at};
 
-use gpi::{Gpi, Nibble, Size, SizeCode};
+use gpi::{Gpi, Size, Unknown};
+use granules::GranuleIndex;
 
-// What a word of an L1 table says. The Rust's `Level1DescriptorRef`.
+// What a valid word of an L1 table says; any other is unknown. The Rust's `Level1DescriptorRef`.
 #[derive(Clone, Copy)]
 pub enum L1Entry {
     Contiguous(Gpi, Size),
     Granules,
-    Invalid,
 }
 
-// What a granule of a word reads: a GPI, or nothing where the word is invalid.
-#[derive(Clone, Copy)]
-pub enum Reading {
-    Known(Gpi),
-    Invalid,
-}
+impl TryFrom<u64> for L1Entry {
+    type Error = Unknown;
 
-// A word against a GPI.
-#[derive(Clone, Copy)]
-pub enum Match {
-    Same,
-    Other,
-    Bad,
-}
+    ghost try_from_gives = { λ w r. result_ok r ≡ l1_of w };
 
-pub fn l1_entry(w: u64) -> L1Entry
-    ensures { result ≡ l1_of w }
-{
-    if w % 16 == 1 {
-        match gpi::gpi_of((w / 16) % 16) {
-            Nibble::Known(g) => match gpi::size_of((w / 256) % 4) {
-                SizeCode::Is(s) => L1Entry::Contiguous(g, s),
-                SizeCode::None => L1Entry::Invalid,
-            },
-            Nibble::Reserved => L1Entry::Invalid,
+    #[tactic(auto, using(crate::proofs::Entries::l1_asked), unfolding(crate::specs::L1::l1_of))]
+    fn try_from(w: u64) -> Result<L1Entry, Unknown> {
+        if w % 16 == 1 {
+            let g = Gpi::try_from((w / 16) % 16)?;
+            let s = Size::try_from((w / 256) % 4)?;
+            Ok(L1Entry::Contiguous(g, s))
+        } else if granules::all_valid(w) {
+            Ok(L1Entry::Granules)
+        } else {
+            Err(Unknown)
         }
-    } else if granules::all_valid(w) {
-        L1Entry::Granules
-    } else {
-        L1Entry::Invalid
     }
 }
 
@@ -54,83 +41,71 @@ pub fn l1_entry(w: u64) -> L1Entry
 pub fn contig(s: Size, g: Gpi) -> u64
     ensures { result ≡ contig_word s g }
 {
-    gpi::size_number(s) * 256 + gpi::number(g) * 16 + 1
+    u64::from(s) * 256 + u64::from(g) * 16 + 1
 }
 
-fn read_nibble(n: Nibble) -> Reading
-    ensures { result ≡ read_nibble n }
-{
-    match n {
-        Nibble::Known(g) => Reading::Known(g),
-        Nibble::Reserved => Reading::Invalid,
-    }
-}
-
-// What granule i of a word reads. Not by way of `l1_entry`: a lookup wants neither the size nor an entry in memory.
-pub fn read(w: u64, i: u64) -> Reading
-    requires { i < 16 }
+// What granule i of a word reads: nothing where the word is invalid. Not by way of `L1Entry`: a lookup wants neither the size nor an entry
+// in memory.
+#[inline(always)]
+#[tactic(auto, using(crate::proofs::Sized::reads))]
+pub fn read(w: u64, i: GranuleIndex) -> Option<Gpi>
     ensures { result ≡ read_at w i }
 {
     if w % 16 == 1 {
         if w % 1024 < 256 {
-            return Reading::Invalid;
+            return None; // no size
         }
-        return read_nibble(gpi::gpi_of((w / 16) % 16));
+        return Gpi::try_from((w / 16) % 16).ok();
     }
     if granules::all_valid(w) {
-        read_nibble(granules::gpi_at(w, i))
+        granules::gpi_at(w, i)
     } else {
-        Reading::Invalid
+        None
     }
 }
 
-fn same(yes: bool) -> Match
-    ensures { result ≡ same_of yes }
-{
-    if yes { Match::Same } else { Match::Other }
-}
-
-// Whether a word reads this GPI throughout. Not by way of `l1_entry`: a scan wants neither the size nor an entry in memory, and asks the
-// table of nibbles only where the GPIs differ.
-pub fn matches_gpi(w: u64, g: Gpi) -> Match
+// Whether a word reads this GPI throughout: nothing where it is invalid. Not by way of `L1Entry`: a scan wants neither the size nor an
+// entry in memory, and asks the table of nibbles only where the GPIs differ.
+#[tactic(auto, using(crate::proofs::Sized::matches))]
+pub fn matches_gpi(w: u64, g: Gpi) -> Option<bool>
     ensures { result ≡ match_at w g }
 {
     if w % 16 == 1 {
         if w % 1024 < 256 {
-            return Match::Bad;
+            return None;
         }
         let n = (w / 16) % 16;
-        if n == gpi::number(g) {
-            return Match::Same;
+        if n == u64::from(g) {
+            return Some(true);
         }
         if gpi::is_valid(n) {
-            return Match::Other;
+            return Some(false);
         }
-        return Match::Bad;
+        return None;
     }
     if granules::all_valid(w) {
-        same(granules::all_gpi(w, g))
+        Some(granules::all_gpi(w, g))
     } else {
-        Match::Bad
+        None
     }
 }
 
 // The granule word that reads as a word does. A word whose low nibble isn't 1 is its own, valid or not: its other nibbles aren't looked at.
+#[tactic(auto, using(crate::proofs::Alike::flat_untagged))]
 pub fn flat(w: u64) -> u64
     ensures { result ≡ flat_at w }
 {
-    if w % 16 == 1 {
-        match l1_entry(w) {
-            L1Entry::Contiguous(g, _) => gpi::number(g) * 0x1111_1111_1111_1111,
-            L1Entry::Granules => w,
-            L1Entry::Invalid => w,
-        }
-    } else {
-        w
+    if w % 16 != 1 {
+        return w;
+    }
+    match L1Entry::try_from(w) {
+        Ok(L1Entry::Contiguous(g, _)) => u64::from(g) * 0x1111_1111_1111_1111,
+        _ => w,
     }
 }
 
 // The words of a size, where `unit` words are 2 MB.
+#[tactic(auto, unfolding(theory::specs::Normal::span))]
 pub fn span(unit: usize, s: Size) -> usize
     requires { unit ≤ 32 }
     ensures { result ≡ span_of unit (level_of s) }

@@ -1,7 +1,7 @@
 -- Mends and checks of one table as calls, by any addresses that name it: where mends one after the other lead, and what the check says
 -- then.
 use mathlib.Core.Path.{◌≡◌, refl, sym, ap, ◌∙◌, subst}
-use mathlib.Core.Bool.{Bool, true, false}
+use mathlib.Core.Bool.{true}
 use mathlib.Core.List.{List, [], ◌∷◌, ◌++◌, map}
 use Prim.Native.Nat.{ℕ, ◌≤◌}
 use native.Mathlib.Omega.{arith}
@@ -19,13 +19,9 @@ use Rattle.resolve.specs.Lent.{Lent, lay_in, Names}
 use Rattle.resolve.proofs.Found.{Found, lay_table, lay_again, lay_place}
 use Rattle.mend_table.specs.Normal.{is_normal}
 use Rattle.mend_table.proofs.Yes.{normal-yes, yes_the_one}
-use Rattle.mend.specs.declared.Checked.TheVariants.{Yes}
-use Rattle.mend.specs.Outcome.{mended_number, mended_at, mend_of, verdict, checked_at, check_of}
+use Rattle.mend.specs.Outcome.{mended_number, checked_yes, mended_at, mend_of, checked_at, check_of}
 use Rattle.mend.specs.Mends.{Mend, AllName, Mending}
-
-yes_true : (v : Bool) → verdict v ≡ Yes → v ≡ true
-yes_true true e = refl
-yes_true false e = let z : ◌≡◌ {A = ℕ} 0 1 = cc in absurd (omega arith)
+use Rattle.std.specs.Prelude.{Ok}
 
 limits : List Mend → List ℕ
 limits [] = []
@@ -54,13 +50,13 @@ module _ {q : Lent} {x : ℕ} {w : Widths} {s : Site} (f : Found q x w s) where
         (lay_again f T len (mend F s.unit k T))
 
     -- the check judges it
-    pub check_judges : check_of (lay_in q s T) y ≡ verdict (is_normal F s.unit T)
+    pub check_judges : check_of (lay_in q s T) y ≡ Ok (is_normal F s.unit T)
     unfolding check_of checked_at
     check_judges = rw (lay_place f T len y n, lay_table f T len) refl
 
     -- to which it says yes, of the tables of these granules, is the normal one
-    pub yes_table : check_of (lay_in q s T) y ≡ Yes → (t : List ℕ) → map F.flat T ≡ map F.flat t → T ≡ normal F s.unit t
-    yes_table v t e = yes_the_one F L s.unit T t e (yes_true (is_normal F s.unit T) (sym check_judges ∙ v))
+    pub yes_table : check_of (lay_in q s T) y ≡ Ok true → (t : List ℕ) → map F.flat T ≡ map F.flat t → T ≡ normal F s.unit t
+    yes_table v t e = yes_the_one F L s.unit T t e (ap checked_yes (sym check_judges ∙ v))
 
   -- ---- mends one after the other
 
@@ -90,7 +86,7 @@ module _ {q : Lent} {x : ℕ} {w : Widths} {s : Site} (f : Found q x w s) where
 
   -- To a normal table the check says yes.
   pub normal-checked : (t : List ℕ) → length (normal F s.unit t) ≡ s.words → (y : ℕ) → Names w x y
-      → check_of (lay_in q s (normal F s.unit t)) y ≡ Yes
+      → check_of (lay_in q s (normal F s.unit t)) y ≡ Ok true
   normal-checked t len y n =
       check_judges (normal F s.unit t) len y n
-      ∙ ap verdict (normal-yes F L s.unit (normal F s.unit t) (sym (normal-normal F L s.unit f.sited.unit_least t)))
+      ∙ ap Ok (normal-yes F L s.unit (normal F s.unit t) (sym (normal-normal F L s.unit f.sited.unit_least t)))

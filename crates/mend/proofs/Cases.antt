@@ -18,9 +18,10 @@ use Rattle.resolve.specs.Refusals.{arena_bad, outside}
 use Rattle.resolve.specs.Place.{site_of, located, place_of}
 use Rattle.resolve.specs.Lent.{lent}
 use Rattle.resolve.specs.B.{fields, l0_b, arrangement_b}
-use Rattle.mend.specs.declared.Mended.{Mended}
 use Rattle.mend_table.specs.Normal.{is_normal}
 use Rattle.mend.specs.Outcome.{mended_number, mended_stores, checked_number, checked_yes, mended_at, mend_of, checked_at, check_of}
+use Rattle.std.specs.Prelude.{Result}
+use Rattle.resolve.specs.declared.Refusal.{Refusal}
 
 -- what must open for a mend and a check to be computed
 unfoldable pub opened : ℕ
@@ -97,7 +98,7 @@ fused-32 = refl
 
 -- ---- calls in B: with this PPS and GPC, these L0 words, so many arena words and this base lent
 
-abbrev call : ℕ → Bool → List ℕ → ℕ → ℕ → ℕ → Mended
+abbrev call : ℕ → Bool → List ℕ → ℕ → ℕ → ℕ → Result ℕ Refusal
 call p on L n b x = (mend_of (lent (fields p 1 0 on) L (replicate n 0x3A1) b) x 5).answer
 
 refused-1 : mended_number (call 7 true l0_b 1024 0x8000_0000 0x4000_0000) ≡ 1

@@ -1,86 +1,48 @@
 // The calls that the port adds to the Rust's: mend of the L1 table that an address names, and the check of its normal form.
 #![tactic(auto)]
 
-ghost use Rattle.std.specs.Prelude.{◌≡◌};
-ghost use Rattle.resolve.specs.Lent.{lent};
+ghost use Rattle.std.specs.Prelude.{◌≡◌, IfOk};
+ghost use Rattle.gpt.specs.Lends.{lends};
 ghost use Rattle.resolve.specs.declared.Call.TheVariants.{Plain};
 ghost use Rattle.resolve.specs.Place.{asks, place_of};
-ghost use Rattle.mend.specs.Outcome.{Left, named_by, mend_of, verdict, check_of};
+ghost use Rattle.resolve.specs.Sited.{Sited};
+ghost use Rattle.mend.specs.Outcome.{Left, named_by, mend_of, check_of};
 
-use config::Config;
+use gpt::GranuleProtection;
 use pa::PA;
-use resolve::{Ask, Call, Place, Refusal, Site};
+use resolve::{Call, Place, Refusal, Site};
 
-// The L1 table that an address names, or why it names none.
-#[derive(Clone, Copy)]
-pub enum Named {
-    At(Site),
-    Refused(Refusal),
-}
-
-// What a mend answers: the stores made, or why it is refused.
-#[derive(Clone, Copy)]
-pub enum Mended {
-    Ok(u64),
-    Refused(Refusal),
-}
-
-// What the check answers: whether a mend that no limit stops would write nothing, or why it is refused.
-#[derive(Clone, Copy)]
-pub enum Checked {
-    Yes,
-    No,
-    Refused(Refusal),
-}
-
-// The table that an address names, in an arena of so many words.
-fn table_named(l0: &[u64], c: Config, words: usize, base: PA, address: PA) -> Named
-    ensures { result ≡ named_by (place_of (asks c words base.0 Plain address.0) l0.now) }
+// The L1 table that an address names, in an arena of so many words, or why it names none.
+fn table_named(p: &GranuleProtection, words: usize, address: PA) -> Result<Site, Refusal>
+    ensures named { result ≡ named_by (place_of (asks p.now.config words p.now.base.0 Plain address.0) p.now.l0.now) }
+    ensures sited { IfOk result (λ s. Sited words s) }
 {
-    let q = Ask {
-        config: c,
-        words,
-        base,
-        address,
-        call: Call::Plain,
-    };
-    match resolve::resolve(l0, q) {
-        Place::Refused(r) => Named::Refused(r),
-        Place::Block(_) => Named::Refused(Refusal::InvalidRequest),
-        Place::Table(s) => Named::At(s),
+    match p.place(words, address, Call::Plain)? {
+        Place::Block(_) => Err(Refusal::InvalidRequest),
+        Place::Table(s) => Ok(s),
     }
 }
 
-// The mend of the L1 table that an address names.
-pub fn mend(c: Config, l0: &[u64], arena: &mut [u64], base: PA, address: PA, limit: u64) -> Mended
-    ensures { Left (mend_of (lent c l0.now arena.old base.0) address.0 limit) result arena.new }
+// The mend of the L1 table that an address names: the stores made, or why it is refused.
+#[tactic(auto, using(crate::proofs::Sites::part), unfolding(crate::specs::Outcome::mend_of, crate::specs::Outcome::mended_at))]
+pub fn mend(
+    p: &GranuleProtection,
+    arena: &mut [u64],
+    address: PA,
+    limit: u64,
+) -> Result<u64, Refusal>
+    ensures { Left (mend_of (lends p.now arena.old) address.0 limit) result arena.new }
 {
-    match table_named(l0, c, arena.len(), base, address) {
-        Named::Refused(r) => Mended::Refused(r),
-        Named::At(s) => {
-            let o = s.start;
-            let end = o + s.words;
-            Mended::Ok(mend_table::mend_table(&mut arena[o..end], s.unit, limit))
-        }
-    }
+    let s = table_named(p, arena.len(), address)?;
+    let table = &mut arena[s.start..s.start + s.words];
+    Ok(mend_table::mend_table(table, s.unit, limit))
 }
 
-fn verdict_of(yes: bool) -> Checked
-    ensures { result ≡ verdict yes }
+// The check of the L1 table that an address names: whether a mend that no limit stops would write nothing, or why it is refused.
+#[tactic(auto, using(crate::proofs::Sites::part), unfolding(crate::specs::Outcome::check_of, crate::specs::Outcome::checked_at))]
+pub fn check(p: &GranuleProtection, arena: &[u64], address: PA) -> Result<bool, Refusal>
+    ensures { result ≡ check_of (lends p.now arena.now) address.0 }
 {
-    if yes { Checked::Yes } else { Checked::No }
-}
-
-// The check of the L1 table that an address names.
-pub fn check(c: Config, l0: &[u64], arena: &[u64], base: PA, address: PA) -> Checked
-    ensures { result ≡ check_of (lent c l0.now arena.now base.0) address.0 }
-{
-    match table_named(l0, c, arena.len(), base, address) {
-        Named::Refused(r) => Checked::Refused(r),
-        Named::At(s) => {
-            let o = s.start;
-            let end = o + s.words;
-            verdict_of(mend_table::check_table(&arena[o..end], s.unit))
-        }
-    }
+    let s = table_named(p, arena.len(), address)?;
+    Ok(mend_table::check_table(&arena[s.start..s.start + s.words], s.unit))
 }

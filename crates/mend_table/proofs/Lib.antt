@@ -1,6 +1,6 @@
 pub mod Lists
+pub mod Slices
 pub mod Single
-pub mod Stretches
 pub mod Judging
 pub mod Walks
 pub mod Checks

@@ -1,37 +1,24 @@
--- Crate mend_table. `every` over stretches: a scan's loop, one stretch after another, and one test for another within the stretch.
-use mathlib.Core.Path.{◌≡◌, refl, sym, ◌∙◌}
+-- Crate mend_table. `every` over the words of a table: a stretch and another, one stretch after another, and a test of a list's elements.
+use mathlib.Core.Path.{◌≡◌, refl}
 use mathlib.Core.Bool.{Bool, true, false, ◌&&◌}
-use Prim.Native.Nat.{ℕ, zero, suc, ◌+◌, ◌-◌, ◌<◌, ◌≤◌}
-use native.Mathlib.Nat.{add-suc, suc-add, add-zero, zero-add, sub-zero}
-use native.Mathlib.Numerals.{add-one}
+use mathlib.Core.List.{List, [], ◌∷◌}
+use Prim.Native.Nat.{ℕ, zero, suc, ◌+◌, ◌<◌}
+use native.Mathlib.Nat.{add-suc, suc-add, add-zero, zero-add}
+use native.Mathlib.Numerals.{one-add}
 use native.Mathlib.Omega.{arith}
-use lib.Dec.{eqb}
-use Rattle.theory.specs.Normal.{every}
+use lib.ListN.{length}
+use Rattle.std.specs.List.{list_all}
+use Rattle.theory.specs.Normal.{at, every}
 
--- ---- a scan: the rest of the stretch says the same as the whole
-
-module _ (p : ℕ → Bool) (a n : ℕ) where
-  pub scan-start : every p a n ≡ every p (a + 0) (n - 0)
-  scan-start = rw (add-zero a, sub-zero n) refl
-
-  module _ (i : ℕ) (e : every p a n ≡ every p (a + i) (n - i)) where
-    more : i < n → every p (a + i) (n - i) ≡ (p (a + i) && every p (a + (i + 1)) (n - (i + 1)))
-    unfolding every
-    more b =
-        let s : n - i ≡ suc (n - suc i) = omega arith in
-        rw (s, add-one i, add-suc a i) refl
-
-    pub scan-more : i < n → p (a + i) ≡ true → every p a n ≡ every p (a + (i + 1)) (n - (i + 1))
-    scan-more b q = e ∙ more b ∙ rw q refl
-
-    pub scan-stop : i < n → p (a + i) ≡ false → false ≡ every p a n
-    scan-stop b q = sym (e ∙ more b ∙ rw q refl)
-
-    pub scan-end : n ≤ i → true ≡ every p a n
-    unfolding every
-    scan-end b = let s : n - i ≡ 0 = omega arith in sym (e ∙ rw s refl)
-
--- ---- stretches
+-- the test p from a and the test q from b
+pub every-there : (p q : ℕ → Bool) (a b n : ℕ) → ((j : ℕ) → j < n → p (a + j) ≡ q (b + j)) → every p a n ≡ every q b n
+unfolding every
+every-there p q a b zero e = refl
+every-there p q a b (suc n) e =
+    rw (
+      rw (add-zero a, add-zero b) at (e 0 (omega arith)),
+      every-there p q (suc a) (suc b) n (λ j h. rw (suc-add a j, suc-add b j) (rw (add-suc a j, add-suc b j) at (e (suc j) (omega arith)))),
+    ) refl
 
 pub every-add : (p : ℕ → Bool) (a m n : ℕ) → every p a (m + n) ≡ (every p a m && every p (a + m) n)
 unfolding every
@@ -42,12 +29,11 @@ every-add p a (suc m) n = rw (suc-add m n, every-add p (suc a) m n, suc-add a m,
     go true = refl
     go false = refl
 
--- words compared with others that are the same within the stretch
-pub every-same : (r : ℕ → ℕ) (b : Bool) (g h : ℕ → ℕ) (a n : ℕ) → ((j : ℕ) → a ≤ j → j < a + n → g j ≡ h j)
-    → b ≡ every (λ j. eqb (r j) (h j)) a n → b ≡ every (λ j. eqb (r j) (g j)) a n
+pub every-list : (p : ℕ → Bool) (xs : List ℕ) → list_all p xs ≡ every (λ i. p (at xs i)) 0 (length xs)
 unfolding every
-every-same r b g h a n e w = w ∙ sym (go a n e)
-  where
-    go : (a n : ℕ) → ((j : ℕ) → a ≤ j → j < a + n → g j ≡ h j) → every (λ j. eqb (r j) (g j)) a n ≡ every (λ j. eqb (r j) (h j)) a n
-    go a zero e = refl
-    go a (suc n) e = rw (e a (omega arith) (omega arith), go (suc a) n (λ j lo hi. e j (omega arith) (omega arith))) refl
+every-list p [] = refl
+every-list p (x ∷ xs) =
+    rw (
+      every-list p xs,
+      every-there (λ i. p (at xs i)) (λ i. p (at (x ∷ xs) i)) 0 1 (length xs) (λ j h. rw (zero-add j, one-add j) refl),
+    ) refl

@@ -11,8 +11,6 @@ use Rattle.theory.specs.Normal.{every}
 use Rattle.theory.specs.Inner.{single}
 use Rattle.theory.proofs.Lists.{every-at, every-ext}
 use Rattle.theory.proofs.Normal.{reads-valid}
-use Rattle.mend_table.specs.declared.Test.TheVariants.{Alike}
-use Rattle.mend_table.specs.Inner.{passed}
 
 module _ (F : Format) (L : Laws F) (r : ℕ → ℕ) (a n f : ℕ) (e : f ≡ F.flat (r a)) where
   -- the lowest word is a GPI sixteen times: then words with its granules are valid
@@ -30,10 +28,10 @@ module _ (F : Format) (L : Laws F) (r : ℕ → ℕ) (a n f : ℕ) (e : f ≡ F.
     same_reads v false true p p' = rw (← (L.valid_flat v), eqb-true (F.flat v) f p', valid) refl
     same_reads v false false p p' = rw and-false refl
 
-    pub scanned : {b : Bool} → b ≡ every (λ j. passed F (Alike (r a) f) (r j)) a n → single F r a n ≡ b
+    pub scanned : {b : Bool} → b ≡ every (λ j. eqb (r j) (r a) || eqb (F.flat (r j)) f) a n → single F r a n ≡ b
     unfolding single reads
     scanned s =
-        every-ext (λ j. F.valid (r j) && eqb (F.flat (r j)) (F.rep (gpi F (r a)))) (λ j. passed F (Alike (r a) f) (r j))
+        every-ext (λ j. F.valid (r j) && eqb (F.flat (r j)) (F.rep (gpi F (r a)))) (λ j. eqb (r j) (r a) || eqb (F.flat (r j)) f)
         (λ j. rw (sym (q ∙ ap (λ (x : ℕ). F.rep (F.low x)) e)) (same_reads (r j) (eqb (r j) (r a)) (eqb (F.flat (r j)) f) refl refl))
         a n
         ∙ sym s

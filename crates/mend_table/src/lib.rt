@@ -1,204 +1,133 @@
 // mend_table: the mend and the check of one L1 table. Added by the port: the Rust has neither.
 // Both go down the sizes. A range is judged: one of one GPI is to be that contiguous word, any other is judged by its sixteen parts, and a
 // 2 MB part by its words. Mend makes the words so, the check asks whether they are. So a word is read a few times, whatever the table
-// holds: for each size, and where it is written; never a whole range again for each word. The ranges of a size are numbered from the
-// table's start: range p, of n words, begins at word p * n.
+// holds: for each size, and where it is written; never a whole range again for each word. A range is a slice: its parts are slices of it.
+// That it is one of a size stands in each contract (`Ranges`): a struct around the slice would be built and taken apart at each call.
 #![tactic(auto)]
 
-ghost use Rattle.std.specs.Prelude.{◌≡◌, ◌+◌, ◌≤◌, ◌<◌, ◌*◌, length};
-ghost use Rattle.theory.specs.Normal.{at, every};
+ghost use Rattle.std.specs.Prelude.{◌≡◌, ◌<◌, List, [], ◌∷◌, length};
+ghost use Rattle.theory.specs.Normal.{at};
 ghost use Rattle.theory.specs.Inner.{walked, step, Goes};
 ghost use Rattle.l1.specs.Arm.{level_of, arm};
-ghost use Rattle.mend_table.specs.declared.Test.TheVariants.{Alike};
-ghost use Rattle.mend_table.specs.Inner.{wanted_at, passed, Lies, OneIs, Judges, Mends, Fits};
+ghost use Rattle.mend_table.specs.Inner.{wanted_at, Ranges, OneIs, Judges, Mends, Fits};
 ghost use Rattle.mend_table.specs.Mend.{Regions, Repaired};
 ghost use Rattle.mend_table.specs.Normal.{is_normal};
 
-use gpi::{Gpi, Nibble, Size, SizeCode};
+use gpi::{Gpi, Size};
 
-// What the words of a range are to be: this word, or each its own granules.
-#[derive(Clone, Copy)]
-enum Want {
-    Word(u64),
-    Flat,
-}
-
-// What a scan asks of each word: that it is what is wanted; or that it reads as this word does, whose granules are these.
-#[derive(Clone, Copy)]
-enum Test {
-    Is(Want),
-    Alike(u64, u64),
-}
-
-// Of what GPI a range is: valid throughout and of this one, or not so.
-#[derive(Clone, Copy)]
-enum One {
-    Gpi(Gpi),
-    Mixed,
-}
-
-// What a range is to be: these words, or what its sixteen parts of this size are to be.
+// What a range is to be: this word throughout, or where there is none each word its own granules; or what its sixteen parts of this size
+// are to be. An enum: neither is the other's absence or refusal, as in an Option or a Result.
 #[derive(Clone, Copy)]
 enum Judged {
-    Words(Want),
+    Words(Option<u64>),
     Parts(Size),
 }
 
-// The word that v is to be.
-fn wanted(want: Want, v: u64) -> u64
+// The stores of a mend: how many it may make, and how many it has made.
+#[derive(Clone, Copy)]
+struct Stores {
+    limit: u64,
+    made: u64,
+}
+
+impl Stores {
+    // The word becomes w if it differs and fewer stores are made than the limit. The only place that stores.
+    fn put(&mut self, word: &mut u64, w: u64)
+        ensures limit { self.new.limit ≡ self.old.limit }
+        ensures stored { walked (word.new ∷ []) self.new.made ≡ step self.old.limit (λ _. w) 0 (walked (word.old ∷ []) self.old.made) }
+    {
+        if *word == w {
+            return;
+        }
+        if self.made < self.limit {
+            *word = w;
+            self.made += 1;
+        }
+    }
+}
+
+// The word that v is to be: the one wanted, or else its granules.
+fn wanted(want: Option<u64>, v: u64) -> u64
     ensures { result ≡ wanted_at arm want v }
 {
-    match want {
-        Want::Word(w) => w,
-        Want::Flat => l1::flat(v),
-    }
+    want.unwrap_or_else(|| l1::flat(v))
 }
 
-// Whether v is the word w, or has the granules f. Most words of a range are equal: their granules aren't asked for.
-fn alike(v: u64, w: u64, f: u64) -> bool
-    ensures { result ≡ passed arm (Alike w f) v }
+// The one GPI of a range that is valid throughout and of one. No word's sixteen nibbles are looked at: the lowest word's granules are one
+// GPI sixteen times, and every other word's granules are the same. Most words are equal to the lowest: their granules aren't asked for.
+fn one_gpi(t: &[u64]) -> Option<Gpi>
+    requires { 0 < length t.now }
+    ensures { OneIs arm t.now result }
 {
-    if v == w {
-        return true;
-    }
-    l1::flat(v) == f
-}
-
-// Whether v passes.
-fn passes(test: Test, v: u64) -> bool
-    ensures { result ≡ passed arm test v }
-{
-    match test {
-        Test::Is(want) => v == wanted(want, v),
-        Test::Alike(w, f) => alike(v, w, f),
-    }
-}
-
-// Whether the words of range p, of n words, pass.
-fn all_pass(t: &[u64], p: usize, n: usize, test: Test) -> bool
-    requires { p * n + n ≤ length t.now }
-    ensures { result ≡ every (λ j. passed arm test (at t.now j)) (p * n) n }
-{
-    let a = p * n;
-    let mut i: usize = 0;
-    while i < n {
-        if passes(test, t[a + i]) {
-            i += 1;
-        } else {
-            return false;
-        }
-    }
-    true
-}
-
-// The one GPI of range p, of n words. No word's sixteen nibbles are looked at: the lowest word's granules are one GPI sixteen times, and
-// every other word's granules are the same.
-fn one_gpi(t: &[u64], p: usize, n: usize) -> One
-    requires { (0 < n) × (p * n + n ≤ length t.now) }
-    ensures { OneIs arm (at t.now) (p * n) n result }
-{
-    let w = t[p * n];
+    let w = t[0];
     let f = l1::flat(w);
-    if f == f % 16 * 0x1111_1111_1111_1111 {
-        match gpi::gpi_of(f % 16) {
-            Nibble::Known(g) => {
-                if all_pass(t, p, n, Test::Alike(w, f)) {
-                    One::Gpi(g)
-                } else {
-                    One::Mixed
-                }
-            }
-            Nibble::Reserved => One::Mixed,
-        }
+    if f != f % 16 * 0x1111_1111_1111_1111 {
+        return None;
+    }
+    let g = Gpi::try_from(f % 16).ok()?;
+    if t.iter().all(|v| *v == w || l1::flat(*v) == f) {
+        Some(g)
     } else {
-        One::Mixed
+        None
     }
 }
 
-// What range p of size s is to be; u words are 2 MB. Mend and the check both ask here.
-fn judge(t: &[u64], u: usize, s: Size, p: usize) -> Judged
-    requires { Lies u (level_of s) p 1 t.now }
-    ensures { Judges arm u (level_of s) p (at t.now) result }
+// What a range of size s is to be. Mend and the check both ask here.
+fn judge(t: &[u64], s: Size) -> Judged
+    requires { Ranges (level_of s) (length t.now) t.now }
+    ensures { Judges arm (level_of s) t.now result }
 {
-    let n = l1::span(u, s);
-    match one_gpi(t, p, n) {
-        One::Gpi(g) => Judged::Words(Want::Word(l1::contig(s, g))),
-        One::Mixed => match gpi::next_smaller(s) {
-            SizeCode::Is(smaller) => Judged::Parts(smaller),
-            SizeCode::None => Judged::Words(Want::Flat),
+    match one_gpi(t) {
+        Some(g) => Judged::Words(Some(l1::contig(s, g))),
+        None => match s.next_smaller() {
+            Some(smaller) => Judged::Parts(smaller),
+            None => Judged::Words(None),
         },
     }
 }
 
-// Word i becomes w if it differs and fewer stores are made than the limit. The only place that stores.
-fn put(t: &mut [u64], i: usize, w: u64, limit: u64, made: u64) -> u64
-    requires { i < length t.old }
-    ensures { walked t.new result ≡ step limit (λ _. w) i (walked t.old made) }
+// The words become what is wanted, upward.
+fn put_range(t: &mut [u64], want: Option<u64>, mut stores: Stores) -> Stores
+    ensures limit { result.limit ≡ stores.limit }
+    ensures goes { Goes stores.limit (λ i. wanted_at arm want (at t.old i)) 0 (length t.old) t.old stores.made t.new result.made }
 {
-    if t[i] == w {
-        return made;
+    for word in t.iter_mut() {
+        let w = wanted(want, *word);
+        stores.put(word, w);
     }
-    if made < limit {
-        t[i] = w;
-        return made + 1;
-    }
-    made
+    stores
 }
 
-// The words of range p, of n words, become what is wanted, upward.
-fn put_range(t: &mut [u64], p: usize, n: usize, want: Want, limit: u64, made: u64) -> u64
-    requires { p * n + n ≤ length t.old }
-    ensures { Goes limit (λ i. wanted_at arm want (at t.old i)) (p * n) n t.old made t.new result }
-{
-    let a = p * n;
-    let mut d = made;
-    let mut i: usize = 0;
-    while i < n {
-        let w = wanted(want, t[a + i]);
-        d = put(t, a + i, w, limit, d);
-        i += 1;
-    }
-    d
-}
-
-// Range p of size s becomes what it is judged to be.
+// A range of size s becomes what it is judged to be.
 #[cycle(mend_parts_mend_region)]
 #[tactic(auto, using(crate::proofs::Walks::spent))]
-fn mend_region(t: &mut [u64], u: usize, s: Size, p: usize, limit: u64, made: u64) -> u64
-    requires { Lies u (level_of s) p 1 t.old }
-    ensures { Mends arm u (level_of s) limit p 1 t.old made t.new result }
+fn mend_region(t: &mut [u64], s: Size, stores: Stores) -> Stores
+    requires { Ranges (level_of s) (length t.old) t.old }
+    ensures { Mends arm (level_of s) (length t.old) (length t.old) t.old stores t.new result }
 {
-    if limit <= made {
-        return made;
+    if stores.limit <= stores.made {
+        return stores;
     }
-    let n = l1::span(u, s);
-    match judge(&t[..], u, s, p) {
-        Judged::Words(want) => put_range(t, p, n, want, limit, made),
-        Judged::Parts(smaller) => mend_parts(t, u, smaller, p * 16, 16, limit, made),
+    match judge(t, s) {
+        Judged::Words(want) => put_range(t, want, stores),
+        Judged::Parts(smaller) => {
+            let n = t.len() / 16;
+            mend_parts(t, smaller, n, stores)
+        }
     }
 }
 
-// `count` ranges of size s from range p. A loop: a call for each range would take up the stack.
+// The ranges of size s, each of n words, one after another. Its `for` is by index: when the borrow of `chunks_exact_mut` is over, the proof
+// knows how long the table is and not its words.
 #[cycle(mend_parts_mend_region)]
-fn mend_parts(
-    t: &mut [u64],
-    u: usize,
-    s: Size,
-    p: usize,
-    count: usize,
-    limit: u64,
-    made: u64,
-) -> u64
-    requires { Lies u (level_of s) p count t.old }
-    ensures { Mends arm u (level_of s) limit p count t.old made t.new result }
+fn mend_parts(t: &mut [u64], s: Size, n: usize, mut stores: Stores) -> Stores
+    requires { Ranges (level_of s) n t.old }
+    ensures { Mends arm (level_of s) n (length t.old) t.old stores t.new result }
 {
-    let mut d = made;
-    let mut i: usize = 0;
-    while i < count {
-        d = mend_region(t, u, s, p + i, limit, d);
-        i += 1;
+    for p in 0..t.len() / n {
+        stores = mend_region(&mut t[p * n..p * n + n], s, stores);
     }
-    d
+    stores
 }
 
 // The mend of a table of whole 512 MB regions, where `unit` words are 2 MB. It hands back the stores made.
@@ -206,36 +135,35 @@ pub fn mend_table(t: &mut [u64], unit: usize, limit: u64) -> u64
     requires { Regions unit t.old }
     ensures { Repaired unit limit t.old t.new result }
 {
-    let m = t.len() / l1::span(unit, Size::MB512);
-    mend_parts(t, unit, Size::MB512, 0, m, limit, 0)
+    let n = l1::span(unit, Size::MB512);
+    mend_parts(t, Size::MB512, n, Stores { limit, made: 0 }).made
 }
 
-// Whether range p of size s is what it is judged to be.
+// Whether a range of size s is what it is judged to be. `region` and `parts` go down as `mend_region` and `mend_parts` do, but no generic
+// pair is plainer: they lend the words for reading alone, stop at the first that is wrong, and no limit stops them.
 #[cycle(parts_region)]
-fn region(t: &[u64], u: usize, s: Size, p: usize) -> bool
-    requires { Lies u (level_of s) p 1 t.now }
-    ensures { Fits arm u (level_of s) p 1 t.now result }
+fn region(t: &[u64], s: Size) -> bool
+    requires { Ranges (level_of s) (length t.now) t.now }
+    ensures { Fits arm (level_of s) (length t.now) (length t.now) t.now result }
 {
-    let n = l1::span(u, s);
-    match judge(t, u, s, p) {
-        Judged::Words(want) => all_pass(t, p, n, Test::Is(want)),
-        Judged::Parts(smaller) => parts(t, u, smaller, p * 16, 16),
+    match judge(t, s) {
+        Judged::Words(want) => t.iter().all(|v| *v == wanted(want, *v)),
+        Judged::Parts(smaller) => parts(t, smaller, t.len() / 16),
     }
 }
 
-// The next `left` ranges of size s from range p.
+// Whether the ranges of size s, each of n words, are.
 #[cycle(parts_region)]
-fn parts(t: &[u64], u: usize, s: Size, p: usize, left: usize) -> bool
-    requires { Lies u (level_of s) p left t.now }
-    ensures { Fits arm u (level_of s) p left t.now result }
+fn parts(t: &[u64], s: Size, n: usize) -> bool
+    requires { Ranges (level_of s) n t.now }
+    ensures { Fits arm (level_of s) n (length t.now) t.now result }
 {
-    if left == 0 {
-        return true;
+    for part in t.chunks_exact(n) {
+        if !region(part, s) {
+            return false;
+        }
     }
-    if region(t, u, s, p) {
-        return parts(t, u, s, p + 1, left - 1);
-    }
-    false
+    true
 }
 
 // Whether a mend of the table that no limit stops would write nothing; the table is of whole 512 MB regions, `unit` words are 2 MB.
@@ -243,6 +171,5 @@ pub fn check_table(t: &[u64], unit: usize) -> bool
     requires { Regions unit t.now }
     ensures { result ≡ is_normal arm unit t.now }
 {
-    let m = t.len() / l1::span(unit, Size::MB512);
-    parts(t, unit, Size::MB512, 0, m)
+    parts(t, Size::MB512, l1::span(unit, Size::MB512))
 }

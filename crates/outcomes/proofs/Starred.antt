@@ -1,5 +1,6 @@
 -- The starred cases, computed, and one more.
 use mathlib.Core.Path.{refl}
+use Prim.Native.Nat.{ℕ}
 use Rattle.theory.specs.Format.{reads}
 use Rattle.theory.specs.Normal.{span}
 use Rattle.theory.specs.Stores.{apply, fill}
@@ -15,7 +16,6 @@ use Rattle.resolve.specs.Place.{site_of, located, place_of}
 use Rattle.gpt.specs.Lookup.{looked_at, lookup_of}
 use Rattle.gpt.specs.Set.{site_set, set_at, set_of}
 use Rattle.outcomes.specs.Cases.{Starred, ShatteredThenStopped}
-use Prim.Native.Nat.{ℕ}
 
 -- what must open for the definitions to be computed
 unfoldable pub opened : ℕ

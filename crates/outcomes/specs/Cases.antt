@@ -1,10 +1,10 @@
 -- Document 01, "Cases": the starred ones, C1 to C11, in a single list under one claim, over the definitions that the contracts cite.
-use Rattle.std.specs.Prelude.{◌≡◌, true, false, List, [], ◌∷◌, ◌++◌, ℕ, replicate}
+use Rattle.std.specs.Prelude.{◌≡◌, true, false, List, [], ◌∷◌, ◌++◌, ℕ, replicate, Ok, Result}
+use Rattle.gpi.specs.declared.Gpi.{Gpi}
 use Rattle.gpi.specs.declared.Gpi.TheVariants.{NonSecure, Root}
+use Rattle.resolve.specs.declared.Refusal.{Refusal}
 use Rattle.resolve.specs.Lent.{Lent, lent}
 use Rattle.resolve.specs.B.{fields, l0_b, arena_b, arrangement_b, in_b}
-use Rattle.gpt.specs.declared.Looked.{Looked}
-use Rattle.gpt.specs.declared.Looked.TheVariants.{Ok}
 use Rattle.gpt.specs.Lookup.{lookup_of, looked_number}
 use Rattle.gpt.specs.Set.{Outcome, set_of, changed_number, changed_stores, changed_records}
 
@@ -12,7 +12,7 @@ use Rattle.gpt.specs.Set.{Outcome, set_of, changed_number, changed_stores, chang
 abbrev pub log : List ℕ
 log = replicate 52 7
 
-abbrev pub look : List ℕ → ℕ → Looked
+abbrev pub look : List ℕ → ℕ → Result Gpi Refusal
 look A x = lookup_of (in_b A) x
 
 abbrev pub change : Lent → ℕ → ℕ → Outcome

@@ -1,6 +1,2 @@
-// The promises over lookup, set, mend and check: theorems only, see specs/ and proofs/. The code is only what a crate needs to have.
+// The promises over lookup, set, mend and check: theorems only, see specs/ and proofs/. There is no code.
 #![tactic(auto)]
-
-pub fn nothing() -> u8 {
-    0
-}

@@ -4,14 +4,8 @@
 ghost use Rattle.std.specs.Prelude.{◌≡◌};
 ghost use Rattle.pa.specs.Pa.{aligned_down, distance_of};
 
-#[derive(Clone, Copy)]
+#[derive(Clone, Copy, PartialEq, Eq)]
 pub struct PA(pub u64);
-
-#[derive(Clone, Copy)]
-pub enum Distance {
-    Is(i64),
-    Refused,
-}
 
 const LIMIT: u64 = 0x10_0000_0000_0000;
 
@@ -26,18 +20,19 @@ impl PA {
         PA(self.0 / alignment * alignment)
     }
 
-    // How far this address lies above the other: below zero where it lies under it. The Rust's `PA - PA`.
-    pub fn sub(self, other: PA) -> Distance
+    // How far this address lies above the other: below zero where it lies under it, and nothing where either is 2^52 or more. The Rust's
+    // `PA - PA`.
+    pub fn sub(self, other: PA) -> Option<i64>
         ensures { result ≡ distance_of self.0 other.0 }
     {
         let a = self.0;
         let b = other.0;
         if LIMIT <= a {
-            return Distance::Refused;
+            return None;
         }
         if LIMIT <= b {
-            return Distance::Refused;
+            return None;
         }
-        Distance::Is((a as i64) - (b as i64))
+        Some((a as i64) - (b as i64))
     }
 }

@@ -3,20 +3,26 @@
 // is taken on trust of the list: a number that doesn't fit what is here counts as a difference.
 #![tactic(auto)]
 
-mod parts;
+mod records;
 
+use records::{Arrangement, Fill, Record, read_record, words};
 use std::io;
 use std::io::Read;
 
+// Stands for the answer to a call that can't be made: a number, since a list may name it as the Rust's answer, and is then equal.
+const NO_ANSWER: u64 = 255;
+
 // What the records said so far.
-#[derive(Clone, Copy)]
+#[derive(Drop)]
 struct State {
-    // the arrangement
-    fields: u64,
-    base: u64,
-    words: usize,
-    entries: usize,
-    // the set that is being compared: its records, the next of them, and whether all was equal yet
+    // what is lent, the words that the arena is to hold, and the log's records, in fixed memory (no heap): the arrangement tells how many
+    // words of each there are, and `records` how many of the log's are a set's
+    l0: [u64; 4096],
+    arena: [u64; 16384],
+    want: [u64; 16384],
+    log: [[u64; 4]; 13],
+    arrangement: Arrangement,
+    // the set that is being compared: its records, the next of them, and whether all was equal yet (a flag, on which no value hangs)
     records: usize,
     next: usize,
     equal: bool,
@@ -25,241 +31,148 @@ struct State {
     differ: u64,
 }
 
-// A lookup: the number that the port hands back, or none that is any.
-fn lookup(l0: &[u64], arena: &[u64], s: State, address: u64) -> u64 {
-    let f = s.fields;
-    let o: usize = 0;
-    let n = s.entries;
-    let m = s.words;
-    if l0.len() < n {
-        return 255;
+impl State {
+    fn new() -> State {
+        State {
+            l0: [0; 4096],
+            arena: [0; 16384],
+            want: [0; 16384],
+            log: [[0; 4]; 13],
+            arrangement: Arrangement::default(),
+            records: 0,
+            next: 0,
+            equal: true,
+            asked: 0,
+            differ: 0,
+        }
     }
-    if arena.len() < m {
-        return 255;
-    }
-    abi::gpt_lookup(
-        parts::byte(f),
-        parts::byte(f >> 8),
-        parts::byte(f >> 16),
-        parts::byte(f >> 24),
-        &l0[o..n],
-        &arena[o..m],
-        s.base,
-        address,
-    )
-}
 
-fn set(l0: &[u64], arena: &mut [u64], log: &mut [u64], s: State, address: u64, gpi: u64) -> u64 {
-    let f = s.fields;
-    let o: usize = 0;
-    let n = s.entries;
-    let m = s.words;
-    if l0.len() < n {
-        return 255;
+    // Counts a difference, if there is one.
+    fn hold(&mut self, equal: bool) {
+        if !equal {
+            self.differ = self.differ.wrapping_add(1);
+        }
     }
-    if arena.len() < m {
-        return 255;
-    }
-    abi::gpt_set(
-        parts::byte(f),
-        parts::byte(f >> 8),
-        parts::byte(f >> 16),
-        parts::byte(f >> 24),
-        &l0[o..n],
-        &mut arena[o..m],
-        s.base,
-        log,
-        address,
-        gpi,
-    )
-}
 
-fn wrong(s: State) -> State {
-    let mut t = s;
-    t.differ = parts::more(s.differ);
-    t
-}
+    // The arrangement of the requests that follow: all words 0.
+    fn arrange(&mut self, arrangement: Arrangement) {
+        self.l0.fill(0);
+        self.arena.fill(0);
+        self.want.fill(0);
+        self.arrangement = arrangement;
+    }
 
-// A record that only writes.
-fn noted(s: State, done: bool) -> State {
-    if done {
-        return s;
+    // The number that the port hands back, if the arrangement fits what is here.
+    fn lookup(&self, address: u64) -> Option<u64> {
+        let s = self.arrangement;
+        let l0 = self.l0.get(..s.l0)?;
+        let arena = self.arena.get(..s.arena)?;
+        Some(abi::gpt_lookup(s.pps, s.pgs, s.l0gptsz, s.flags, l0, arena, s.base, address))
     }
-    wrong(s)
-}
 
-// Record 1: all words 0, and the fields.
-fn arranged(
-    l0: &mut [u64],
-    arena: &mut [u64],
-    want: &mut [u64],
-    s: State,
-    fields: u64,
-    base: u64,
-    words: u64,
-    entries: u64,
-) -> State {
-    let n = l0.len() as u64;
-    parts::fill(l0, 0, n, 0);
-    let m = arena.len() as u64;
-    parts::fill(arena, 0, m, 0);
-    parts::fill(want, 0, m, 0);
-    let mut t = s;
-    t.fields = fields;
-    t.base = base;
-    t.words = words as usize;
-    t.entries = entries as usize;
-    t
-}
+    fn set(&mut self, address: u64, gpi: u64) -> Option<u64> {
+        let s = self.arrangement;
+        let l0 = self.l0.get(..s.l0)?;
+        let arena = self.arena.get_mut(..s.arena)?;
+        let log = self.log.as_flattened_mut();
+        Some(abi::gpt_set(
+            s.pps, s.pgs, s.l0gptsz, s.flags, l0, arena, s.base, log, address, gpi,
+        ))
+    }
 
-// Record 4: the port's answer, packed, against the Rust's.
-fn looked(s: State, port: u64, rust: u64) -> State {
-    let mut t = s;
-    t.asked = parts::more(s.asked);
-    if port == rust {
-        return t;
+    // The port's answer, packed, against the Rust's.
+    fn looked(&mut self, address: u64, answer: u64) {
+        self.asked = self.asked.wrapping_add(1);
+        let port = self.lookup(address).unwrap_or(NO_ANSWER);
+        self.hold(port == answer);
     }
-    wrong(t)
-}
 
-// Record 5: a set was made. Its barriers and its words follow.
-fn begun(s: State, port: u64, rust: u64) -> State {
-    let mut t = s;
-    t.asked = parts::more(s.asked);
-    t.records = ((port / 256) % 256) as usize;
-    t.next = 0;
-    t.equal = port % 256 == rust;
-    t
-}
+    // A set is made. Its barriers and its words follow.
+    fn begin(&mut self, address: u64, answer: u64, gpi: u64) {
+        self.asked = self.asked.wrapping_add(1);
+        let [number, records, ..] = self.set(address, gpi).unwrap_or(NO_ANSWER).to_le_bytes();
+        self.records = usize::from(records);
+        self.next = 0;
+        self.equal = u64::from(number) == answer;
+    }
 
-// Record 6: the Rust's next barrier is the next in the port's log.
-fn told(log: &[u64], s: State, kind: u64, x: u64, y: u64) -> State {
-    let mut t = s;
-    let n = s.records;
-    let k = parts::barrier(log, s.next, n);
-    if n <= k {
-        t.equal = false;
-        return t;
+    // The next barrier's record in the set's log, if one is left, and the place after it. Barriers are the kinds 2 to 4: as numbers, which
+    // the log's words are.
+    fn next_barrier(&self) -> Option<(&[u64; 4], usize)> {
+        self.log
+            .iter()
+            .zip(1..)
+            .take(self.records)
+            .skip(self.next)
+            .find(|(record, _)| matches!(record, [2..=4, ..]))
     }
-    t.next = k + 1;
-    if parts::is_record(log, k, kind, x, y) {
-        return t;
-    }
-    t.equal = false;
-    t
-}
 
-// Record 8: no barrier is left, and every word is the Rust's.
-fn ended(arena: &[u64], want: &[u64], log: &[u64], s: State) -> State {
-    let n = s.records;
-    if parts::barrier(log, s.next, n) < n {
-        return wrong(s);
+    // The Rust's next barrier is the next in the port's log.
+    fn told(&mut self, barrier: [u64; 4]) {
+        let Some((record, next)) = self.next_barrier() else {
+            self.equal = false;
+            return;
+        };
+        self.equal = self.equal && *record == barrier;
+        self.next = next;
     }
-    if !parts::same(arena, want) {
-        return wrong(s);
-    }
-    noted(s, s.equal)
-}
 
-// A record taken into account.
-fn step(
-    l0: &mut [u64],
-    arena: &mut [u64],
-    want: &mut [u64],
-    log: &mut [u64],
-    s: State,
-    head: u64,
-    a: u64,
-    b: u64,
-    c: u64,
-) -> State {
-    let kind = head % 256;
-    let rest = head / 256;
-    if kind == 1 {
-        return arranged(l0, arena, want, s, rest, a, b, c);
+    // No barrier is left, and every word is the Rust's.
+    fn ended(&self) -> bool {
+        self.next_barrier().is_none() && self.arena == self.want && self.equal
     }
-    if kind == 2 {
-        return noted(s, parts::fill(l0, a, b, c));
-    }
-    if kind == 3 {
-        let t = noted(s, parts::fill(arena, a, b, c));
-        return noted(t, parts::fill(want, a, b, c));
-    }
-    if kind == 4 {
-        return looked(s, lookup(&l0[..], &arena[..], s, a), b);
-    }
-    if kind == 5 {
-        return begun(s, set(&l0[..], arena, log, s, a, c), b);
-    }
-    if kind == 6 {
-        return told(&log[..], s, rest, a, b);
-    }
-    if kind == 7 {
-        return noted(s, parts::fill(want, a, b, c));
-    }
-    if kind == 8 {
-        return ended(&arena[..], &want[..], &log[..], s);
-    }
-    wrong(s)
-}
 
-fn report(rt: &impl Print, s: State) -> io::Result<()> {
-    let asked = s.asked;
-    let differ = s.differ;
-    println!(rt; "{asked} replayed, {differ} differ")
+    // Words of the arena, which the Rust is to have too.
+    fn lend(&mut self, fill: Fill) {
+        let lent = fill.made(&mut self.arena);
+        self.hold(lent);
+        let wanted = fill.made(&mut self.want);
+        self.hold(wanted);
+    }
+
+    // A record taken into account.
+    fn step(&mut self, record: Record) {
+        match record {
+            Record::Arranged(arrangement) => self.arrange(arrangement),
+            Record::L0Words(fill) => {
+                let lent = fill.made(&mut self.l0);
+                self.hold(lent);
+            }
+            Record::ArenaWords(fill) => self.lend(fill),
+            Record::Lookup { address, answer } => self.looked(address, answer),
+            Record::Set {
+                address,
+                answer,
+                gpi,
+            } => self.begin(address, answer, gpi),
+            Record::Barrier(barrier) => self.told(barrier),
+            Record::Changed(fill) => {
+                let wanted = fill.made(&mut self.want);
+                self.hold(wanted);
+            }
+            Record::End => self.hold(self.ended()),
+        }
+    }
 }
 
 // The whole list: its first record says how many follow.
-fn replay(
-    rt: &impl Print,
-    list: &mut impl Read,
-    l0: &mut [u64],
-    arena: &mut [u64],
-    want: &mut [u64],
-    log: &mut [u64],
-) -> io::Result<()> {
-    let mut record = [0u8; 32];
-    parts::read_record(list, &mut record)?;
-    let mut left = parts::word(&record, 1);
-    let mut s = State {
-        fields: 0,
-        base: 0,
-        words: 0,
-        entries: 0,
-        records: 0,
-        next: 0,
-        equal: true,
-        asked: 0,
-        differ: 0,
-    };
-    while 0 < left {
-        left -= 1;
-        if !parts::read_record(list, &mut record)? {
+fn replay(rt: &impl Print, list: &mut impl Read) -> io::Result<()> {
+    let mut record = [[0; 8]; 4];
+    read_record(list, &mut record)?;
+    let [_, count, ..] = words(record);
+    let mut s = State::new();
+    for _ in 0..count {
+        if !read_record(list, &mut record)? {
             return println!(rt; "the list is cut short");
         }
-        let head = parts::word(&record, 0);
-        let a = parts::word(&record, 1);
-        let b = parts::word(&record, 2);
-        let c = parts::word(&record, 3);
-        s = step(l0, arena, want, log, s, head, a, b, c);
+        match Record::try_from(words(record)) {
+            Ok(said) => s.step(said),
+            Err(_) => s.hold(false),
+        }
     }
-    report(rt, s)
-}
-
-// Room for the words: a function of its own, so that no proof writes them out.
-fn l0_room() -> [u64; 4096] {
-    [0; 4096]
-}
-
-fn arena_room() -> [u64; 16384] {
-    [0; 16384]
+    println!(rt; "{} replayed, {} differ", s.asked, s.differ)
 }
 
 fn main(rt: HostRuntime) -> io::Result<()> {
-    let mut list = rt.stdin();
-    let mut l0 = l0_room();
-    let mut arena = arena_room();
-    let mut want = arena_room();
-    let mut log = [0u64; 52];
-    replay(&rt, &mut list, &mut l0, &mut arena, &mut want, &mut log)
+    replay(&rt, &mut rt.stdin())
 }

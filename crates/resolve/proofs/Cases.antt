@@ -3,28 +3,29 @@ use mathlib.Core.Path.{◌≡◌, refl}
 use mathlib.Core.Bool.{true, false}
 use mathlib.Core.List.{[], ◌∷◌}
 use Prim.Native.Nat.{ℕ, ◌-◌, ◌^◌}
+use Rattle.std.specs.Prelude.{Err, None, Ok, Result, Some}
 use Rattle.gpi.specs.declared.Gpi.TheVariants.{SystemAgent, NonSecure, Realm, NonSecureOnly}
-use Rattle.gpi.specs.declared.Nibble.TheVariants.{Known, Reserved}
 use Rattle.l0.specs.L0.{l0_of}
 use Rattle.config.specs.Fields.{configured_of}
 use Rattle.resolve.specs.declared.Call.{Call}
 use Rattle.resolve.specs.declared.Call.TheVariants.{Plain, Set}
-use Rattle.resolve.specs.declared.Place.{Place}
-use Rattle.resolve.specs.declared.Place.TheVariants.{Refused, Block, Table}
 use Rattle.resolve.specs.Refusals.{refusal_number, arena_bad, outside}
 use Rattle.resolve.specs.Place.{asks, site_of, located, place_of}
 use Rattle.resolve.specs.Lent.{place_for}
 use Rattle.resolve.specs.B.{fields, fields_b, l0_b, arrangement_b}
+use Rattle.resolve.specs.declared.Place.{Place}
+use Rattle.resolve.specs.declared.Refusal.{Refusal}
+use Rattle.resolve.specs.declared.Place.TheVariants.{Block, Table}
 
 -- B's place of an address, for a call
-abbrev at : ℕ → Call → Place
+abbrev at : ℕ → Call → Result Place Refusal
 at x call = place_for arrangement_b call x
 
 -- 0 where it isn't refused
-abbrev number : Place → ℕ
-number (Refused r) = refusal_number r
-number (Block g) = 0
-number (Table s) = 0
+abbrev number : Result Place Refusal → ℕ
+number (Err r) = refusal_number r
+number (Ok (Block g)) = 0
+number (Ok (Table s)) = 0
 
 -- ---- each refusal
 
@@ -52,7 +53,7 @@ arena :
 unfolding configured_of arena_bad located place_of
 arena = (refl, refl, refl)
 
-short : number (at 0x4000_0000 (Set 51 (Known Realm))) ≡ 5
+short : number (at 0x4000_0000 (Set 51 (Some Realm))) ≡ 5
 unfolding configured_of arena_bad located place_of
 short = refl
 
@@ -61,7 +62,7 @@ unfolding configured_of arena_bad located place_of
 high = (refl, refl)
 
 -- unknown, and unsupported
-gpi : (number (at 0x4000_0000 (Set 52 Reserved)) ≡ 6) × (number (at 0x4000_0000 (Set 52 (Known NonSecureOnly))) ≡ 6)
+gpi : (number (at 0x4000_0000 (Set 52 None)) ≡ 6) × (number (at 0x4000_0000 (Set 52 (Some NonSecureOnly))) ≡ 6)
 unfolding configured_of arena_bad located place_of
 gpi = (refl, refl)
 
@@ -98,18 +99,18 @@ few_then_arena : number (place_of (asks fields_b 1024 1 Plain 0) []) ≡ 3
 unfolding configured_of located place_of
 few_then_arena = refl
 
-arena_then_log : number (place_of (asks fields_b 1024 1 (Set 51 (Known Realm)) 0) l0_b) ≡ 4
+arena_then_log : number (place_of (asks fields_b 1024 1 (Set 51 (Some Realm)) 0) l0_b) ≡ 4
 unfolding configured_of arena_bad located place_of
 arena_then_log = refl
 
-log-then_address : number (at 0x1_0000_0000 (Set 51 (Known Realm))) ≡ 5
+log-then_address : number (at 0x1_0000_0000 (Set 51 (Some Realm))) ≡ 5
 unfolding configured_of arena_bad located place_of
 log-then_address = refl
 
 -- a GPI is judged before any L0 word is read
 gpi-then-entry :
-    (number (at 0xC000_0000 (Set 52 Reserved)) ≡ 6)
-    × (number (at 0xC000_0000 (Set 52 (Known NonSecureOnly))) ≡ 6)
+    (number (at 0xC000_0000 (Set 52 None)) ≡ 6)
+    × (number (at 0xC000_0000 (Set 52 (Some NonSecureOnly))) ≡ 6)
 unfolding configured_of arena_bad located place_of
 gpi-then-entry = (refl, refl)
 
@@ -117,29 +118,29 @@ gpi-then-entry = (refl, refl)
 
 -- a base of 2^52 with no words, and an arena that ends there
 at_top :
-    (at 0 Plain ≡ Block NonSecure)
-    × (place_of (asks fields_b 0 (2 ^ 52) Plain 0) l0_b ≡ Block NonSecure)
-    × (place_of (asks fields_b 512 (2 ^ 52 - 4096) Plain 0) l0_b ≡ Block NonSecure)
+    (at 0 Plain ≡ Ok (Block NonSecure))
+    × (place_of (asks fields_b 0 (2 ^ 52) Plain 0) l0_b ≡ Ok (Block NonSecure))
+    × (place_of (asks fields_b 512 (2 ^ 52 - 4096) Plain 0) l0_b ≡ Ok (Block NonSecure))
 unfolding configured_of arena_bad located place_of l0_of
 at_top = (refl, refl, refl)
 
 -- a log of 52 words, and the last address; support of a block's GPI is for the call to judge
 just :
-    (at 0x3FFF_FFFF (Set 52 (Known Realm)) ≡ Block NonSecure)
+    (at 0x3FFF_FFFF (Set 52 (Some Realm)) ≡ Ok (Block NonSecure))
     × (number (at 0xFFFF_FFFF Plain) ≡ 7)
-    × (place_of (asks fields_b 1024 0x8000_0000 Plain 0) (0x41 ∷ 0 ∷ 0 ∷ 0 ∷ []) ≡ Block SystemAgent)
+    × (place_of (asks fields_b 1024 0x8000_0000 Plain 0) (0x41 ∷ 0 ∷ 0 ∷ 0 ∷ []) ≡ Ok (Block SystemAgent))
 unfolding configured_of arena_bad located place_of l0_of
 just = (refl, refl, refl)
 
 -- one entry for the whole space; surplus words aren't read
 surplus :
-    (place_of (asks (fields 1 0 6 true) 0 0 Plain 0xF_FFFF_FFFF) (0x91 ∷ []) ≡ Block NonSecure)
-    × (place_of (asks fields_b 1024 0x8000_0000 Plain 0) (0x91 ∷ 0 ∷ 0 ∷ 0 ∷ 0x21 ∷ []) ≡ Block NonSecure)
+    (place_of (asks (fields 1 0 6 true) 0 0 Plain 0xF_FFFF_FFFF) (0x91 ∷ []) ≡ Ok (Block NonSecure))
+    × (place_of (asks fields_b 1024 0x8000_0000 Plain 0) (0x91 ∷ 0 ∷ 0 ∷ 0 ∷ 0x21 ∷ []) ≡ Ok (Block NonSecure))
 unfolding configured_of arena_bad located place_of l0_of
 surplus = (refl, refl)
 
 -- a table that starts 512 words into the arena: the ranges align to the table, the start is the arena's
 site : place_of (asks fields_b 1536 0x7FFF_F000 Plain 0x4123_4567) l0_b
-    ≡ Table (record { start = 512; words = 1024; index = 18; granule = 3; unit = 2; bytes = 0x1_0000 })
+    ≡ Ok (Table (record { start = 512; words = 1024; index = 18; granule = 3; unit = 2; bytes = 0x1_0000 }))
 unfolding configured_of arena_bad outside site_of located place_of l0_of
 site = refl

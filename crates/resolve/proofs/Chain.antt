@@ -8,26 +8,25 @@ use native.Mathlib.Omega.{arith}
 use borrow.Author.Tests.{le-ltb, lt-leb, ltb-false, leb-false}
 use lib.Dec.{eqb, ltb, leb}
 use lib.ListN.{length}
-use Rattle.gpi.specs.declared.Nibble.{Nibble}
-use Rattle.gpi.specs.declared.Nibble.TheVariants.{Known, Reserved}
+use Rattle.std.specs.Prelude.{Err, None, Ok, Option, Some, ok_or}
 use Rattle.gpi.specs.Gpi.{gpi_at}
+use Rattle.gpi.specs.declared.Gpi.{Gpi}
 use Rattle.pa.specs.declared.PA.{PA}
 use Rattle.pa.specs.Pa.{pa}
-use Rattle.l0.specs.declared.L0Entry.{L0Entry}
-use Rattle.l0.specs.declared.L0Entry.TheVariants.{Table as TableWord, Invalid}
 use Rattle.l0.specs.L0.{l0_of, block_of}
+use Rattle.l0.specs.declared.L0Entry.{L0Entry}
+use Rattle.l0.specs.declared.L0Entry.TheVariants.{Table as L0Table}
 use Rattle.config.specs.declared.Widths.{Widths}
-use Rattle.config.specs.declared.Configured.TheVariants.{Ok}
 use Rattle.config.specs.Fields.{configured_of}
-use Rattle.config.specs.Index.{l0_entries, l1_words}
+use Rattle.config.specs.Index.{l0_entries}
 use Rattle.config.proofs.Bounds.{listed-widths}
 use Rattle.resolve.specs.declared.Ask.{Ask}
-use Rattle.resolve.specs.declared.Refusal.TheVariants.{FewL0Words, BadArena, ShortLog, InvalidRequest, OutsideArena}
-use Rattle.resolve.specs.declared.Place.TheVariants.{Refused, Table}
-use Rattle.resolve.specs.Refusals.{arena_bad, log_short, gpi_bad, outside}
-use Rattle.resolve.specs.Place.{site_of, located, place_of}
+use Rattle.resolve.specs.declared.Refusal.{Refusal}
+use Rattle.resolve.specs.declared.Refusal.TheVariants.{FewL0Words, BadArena, ShortLog, InvalidRequest}
+use Rattle.resolve.specs.Refusals.{arena_bad, log_short, gpi_bad}
+use Rattle.resolve.specs.Place.{located, place_of}
 use Rattle.resolve.specs.Sited.{Passed}
-use Rattle.resolve.specs.Inner.{word_of, onward}
+use Rattle.resolve.specs.Inner.{Entry, word_of, onward}
 
 -- ---- the tests before the L0 word, as they came out: the configuration, 3, 4, 5, the address and the GPI
 
@@ -42,26 +41,26 @@ pub record Asked (q : Ask) (l : List ℕ) (w : Widths) (a b d f g : Bool) : Type
 module _ {q : Ask} {l : List ℕ} {w : Widths} {a b d f g : Bool} (k : Asked q l w a b d f g) where
   order :
       place_of q l
-      ≡ cond a (Refused FewL0Words) (cond b (Refused BadArena) (cond d (Refused ShortLog)
-      (cond f (Refused InvalidRequest) (cond g (Refused InvalidRequest) (onward q w (word_of q l w))))))
+      ≡ cond a (Err FewL0Words) (cond b (Err BadArena) (cond d (Err ShortLog)
+      (cond f (Err InvalidRequest) (cond g (Err InvalidRequest) (onward q w (word_of q l w))))))
   unfolding located place_of
   order = rw (k.taken, k.few, k.arena, k.log, k.address, k.gpi)
 
   -- one lemma for each return: the test is met, the earlier ones are not
 
-  pub few_words : a ≡ true → Refused FewL0Words ≡ place_of q l
+  pub few_words : a ≡ true → Err FewL0Words ≡ place_of q l
   few_words x = rw (order, x)
 
-  pub bad_arena : a ≡ false → b ≡ true → Refused BadArena ≡ place_of q l
+  pub bad_arena : a ≡ false → b ≡ true → Err BadArena ≡ place_of q l
   bad_arena x y = rw (order, x, y)
 
-  pub short_log : a ≡ false → b ≡ false → d ≡ true → Refused ShortLog ≡ place_of q l
+  pub short_log : a ≡ false → b ≡ false → d ≡ true → Err ShortLog ≡ place_of q l
   short_log x y z = rw (order, x, y, z)
 
-  pub bad_address : a ≡ false → b ≡ false → d ≡ false → f ≡ true → Refused InvalidRequest ≡ place_of q l
+  pub bad_address : a ≡ false → b ≡ false → d ≡ false → f ≡ true → Err InvalidRequest ≡ place_of q l
   bad_address x y z u = rw (order, x, y, z, u)
 
-  pub bad_gpi : a ≡ false → b ≡ false → d ≡ false → f ≡ false → g ≡ true → Refused InvalidRequest ≡ place_of q l
+  pub bad_gpi : a ≡ false → b ≡ false → d ≡ false → f ≡ false → g ≡ true → Err InvalidRequest ≡ place_of q l
   bad_gpi x y z u v = rw (order, x, y, z, u, v)
 
   pub none-met : a ≡ false → b ≡ false → d ≡ false → f ≡ false → g ≡ false → Passed q l w
@@ -83,30 +82,26 @@ through q l w o p =
     record { taken = o; few = le-ltb _ _ p.enough; arena = p.arena; log = p.long; address = lt-leb _ _ p.below; gpi = p.gpi } in
     order k
 
--- ---- what it says of a table: the test of 8
-
-module _ (q : Ask) (w : Widths) (e : L0Entry) (a : PA) (h : e ≡ TableWord a) where
-  pub not_inside : outside q.base.0 q.words a.0 (l1_words w) ≡ true → Refused OutsideArena ≡ onward q w e
-  not_inside o = rw (h, o)
-
-  pub table : outside q.base.0 q.words a.0 (l1_words w) ≡ false → Table (site_of q w a.0) ≡ onward q w e
-  table o = rw (h, o)
-
 -- ---- what holds of an L0 table's address: bits 12 to 51
 
 pub none : {A : Type 0} → ◌≡◌ {A = ℕ} 0 1 → A
 none z = absurd (omega arith)
 
-pub table_address : (v : ℕ) (a : PA) → l0_of v ≡ TableWord a → (a.0 % 4096 ≡ 0) × (a.0 < 2 ^ 52)
+pub table_address : (v : ℕ) (a : PA) → l0_of v ≡ Some (L0Table a) → (a.0 % 4096 ≡ 0) × (a.0 < 2 ^ 52)
 unfolding l0_of
 table_address v a e = go (eqb (v % 16) 1) (eqb (v % 16) 3) (gpi_at (v / 2 ^ 4 % 2 ^ 4)) e
   where
-    go : (s t : Bool) (n : Nibble) → cond s (block_of n) (cond t (TableWord (pa (v / 2 ^ 12 % 2 ^ 40 * 2 ^ 12))) Invalid) ≡ TableWord a
+    go : (s t : Bool) (n : Option Gpi) → cond s (block_of n) (cond t (Some (L0Table (pa (v / 2 ^ 12 % 2 ^ 40 * 2 ^ 12)))) None) ≡ Some (L0Table a)
         → (a.0 % 4096 ≡ 0) × (a.0 < 2 ^ 52)
-    go true t (Known g) f = none (cc)
-    go true t Reserved f = none (cc)
+    go true t (Some g) f = none (cc)
+    go true t None f = none (cc)
     go false true n f =
         let k : pa (v / 2 ^ 12 % 2 ^ 40 * 2 ^ 12) ≡ a = cc in
         let m : v / 2 ^ 12 % 2 ^ 40 * 2 ^ 12 ≡ a.0 = ap (λ (x : PA). x.0) k in
         (omega arith, omega arith)
     go false false n f = none (cc)
+
+-- of what some L0 word says, where it is an entry
+pub table_below : (e : Option L0Entry) (r : Refusal) (x : L0Entry) (a : PA) → Entry e → ok_or e r ≡ Ok x → x ≡ L0Table a → a.0 < 2 ^ 52
+table_below (Some x) r y a f p q = let k : Some x ≡ Some (L0Table a) = cc in (table_address f.0 a (f.1 ∙ k)).1
+table_below None r y a f p q = none (cc)

@@ -5,23 +5,24 @@ use mathlib.Core.List.{List}
 use Prim.Native.Nat.{ℕ, ◌+◌, ◌-◌, ◌*◌, ◌/◌, ◌<◌, ◌^◌}
 use native.Mathlib.Omega.{arith}
 use lib.ListN.{length, get_or}
+use Rattle.std.specs.Prelude.{Ok, Some}
 use Rattle.gpi.specs.declared.Size.TheVariants.{MB2}
 use Rattle.pa.specs.Pa.{pa}
 use Rattle.theory.proofs.Arena as arena
-use Rattle.l0.specs.declared.L0Entry.TheVariants.{Table as TableWord}
 use Rattle.l0.specs.L0.{l0_of}
+use Rattle.l0.specs.declared.L0Entry.TheVariants.{Table as L0Table}
 use Rattle.config.specs.declared.Widths.{Widths}
-use Rattle.config.specs.declared.Configured.TheVariants.{Ok}
-use Rattle.config.specs.Fields.{Listed, configured_of}
 use Rattle.config.specs.Index.{l0_index, l1_words, l1_index, granule_index, granule_bytes, size_words}
+use Rattle.config.specs.Fields.{configured_of}
+use Rattle.config.specs.Widths.{Listed}
 use Rattle.resolve.specs.declared.Call.{Call}
 use Rattle.resolve.specs.declared.Call.TheVariants.{Plain}
-use Rattle.resolve.specs.declared.Place.TheVariants.{Table}
 use Rattle.resolve.specs.declared.Site.{Site}
 use Rattle.resolve.specs.Place.{asks, site_of, place_of}
 use Rattle.resolve.specs.Sited.{Sited, Resolved}
 use Rattle.resolve.specs.Lent.{Lent, over, ask_of, place_for, placed, table_in, lay_in, Names}
 use Rattle.resolve.proofs.Promises.{resolved, neighbour}
+use Rattle.resolve.specs.declared.Place.TheVariants.{Table}
 
 -- the site of the address y in the same table
 abbrev pub site_at : Widths → Site → ℕ → Site
@@ -33,7 +34,7 @@ pub record Found (q : Lent) (x : ℕ) (w : Widths) (s : Site) : Type 0 where
   pub configured : configured_of q.config ≡ Ok w
   pub listed : Listed w
   pub below : x < 2 ^ w.pps
-  pub entry : l0_of (get_or q.l0 (l0_index w x) 0) ≡ TableWord (pa (q.base + 8 * s.start))
+  pub entry : l0_of (get_or q.l0 (l0_index w x) 0) ≡ Some (L0Table (pa (q.base + 8 * s.start)))
   pub sited : Sited (length q.arena) s
   pub words : s.words ≡ l1_words w
   pub index : s.index ≡ l1_index w x
@@ -41,9 +42,9 @@ pub record Found (q : Lent) (x : ℕ) (w : Widths) (s : Site) : Type 0 where
   pub unit : s.unit ≡ size_words w MB2
   pub bytes : s.bytes ≡ granule_bytes w
   -- every address that names the table lies in it
-  pub place : (y : ℕ) → Names w x y → placed q y ≡ Table (site_at w s y)
+  pub place : (y : ℕ) → Names w x y → placed q y ≡ Ok (Table (site_at w s y))
 
-pub found : (q : Lent) (call : Call) (x : ℕ) (s : Site) → place_for q call x ≡ Table s → (w : Widths) × Found q x w s
+pub found : (q : Lent) (call : Call) (x : ℕ) (s : Site) → place_for q call x ≡ Ok (Table s) → (w : Widths) × Found q x w s
 unfolding site_of
 found q call x s e = (
   k.0,
@@ -58,7 +59,7 @@ found q call x s e = (
     granule = ap (λ (t : Site). t.granule) r.site;
     unit = unit;
     bytes = bytes;
-    place = λ y n. neighbour (ask_of q call x) q.l0 k.0 s y r n.below n.entry ∙ ap Table (same y);
+    place = λ y n. neighbour (ask_of q call x) q.l0 k.0 s y r n.below n.entry ∙ ap (λ (t : Site). Ok (Table t)) (same y);
   },
 )
   where
@@ -109,9 +110,9 @@ module _ {q : Lent} {x : ℕ} {w : Widths} {s : Site} (f : Found q x w s) where
     lay_again v = ap (over q) (arena.laid-laid s.start s.words q.arena f.sited.fits T len v)
 
     -- and every address that names the table lies where it lay
-    pub lay_place : (y : ℕ) → Names w x y → placed (lay_in q s T) y ≡ Table (site_at w s y)
+    pub lay_place : (y : ℕ) → Names w x y → placed (lay_in q s T) y ≡ Ok (Table (site_at w s y))
     lay_place y n = over-place q (lay_in q s T).arena lay_length Plain y ∙ f.place y n
 
 -- a call that is no set finds x at its site
-pub own_place : {q : Lent} {x : ℕ} {w : Widths} {s : Site} → Found q x w s → placed q x ≡ Table s
-own_place {x = x} {s = s} f = f.place x (record { below = f.below; entry = refl }) ∙ ap Table (rw (← f.index, ← f.granule) refl)
+pub own_place : {q : Lent} {x : ℕ} {w : Widths} {s : Site} → Found q x w s → placed q x ≡ Ok (Table s)
+own_place {x = x} {s = s} f = f.place x (record { below = f.below; entry = refl }) ∙ ap (λ (t : Site). Ok (Table t)) (rw (← f.index, ← f.granule) refl)

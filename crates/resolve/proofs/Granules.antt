@@ -6,8 +6,8 @@ use native.Mathlib.Nat.{mod-eq_of_lt, div-add-mod', div-div-eq-div-mul}
 use native.Mathlib.Omega.{arith}
 use lib.Pow.{pow-add, field}
 use Rattle.config.specs.declared.Widths.{Widths}
-use Rattle.config.specs.Fields.{Listed}
 use Rattle.config.specs.Index.{l0_index, l1_words, l1_index, granule_index, granule_bytes}
+use Rattle.config.specs.Widths.{Listed}
 
 module _ (w : Widths) (h : Listed w) where
   -- a word is sixteen granules

@@ -9,21 +9,19 @@ use borrow.Author.Tests.{le-ltb}
 use lib.Dec.{lit<}
 use lib.ListN.{length, get_or, drop, length-drop, length-append, get_or-append}
 use lib.Seq.{length-take-le, get_or-take, get_or-drop}
+use Rattle.std.specs.Prelude.{Err, None, Ok, Option, Result, Some}
 use Rattle.gpi.specs.declared.Gpi.{Gpi}
-use Rattle.gpi.specs.declared.Nibble.{Nibble}
-use Rattle.gpi.specs.declared.Nibble.TheVariants.{Known, Reserved}
 use Rattle.gpi.specs.declared.Size.TheVariants.{MB2, MB512}
 use Rattle.pa.specs.declared.PA.{PA}
 use Rattle.pa.specs.Pa.{pa}
 use Rattle.theory.specs.Normal.{span}
-use Rattle.l0.specs.declared.L0Entry.{L0Entry}
-use Rattle.l0.specs.declared.L0Entry.TheVariants.{Block as BlockWord, Table as TableWord, Invalid}
 use Rattle.config.specs.declared.Config.{Config}
 use Rattle.config.specs.declared.Widths.{Widths}
-use Rattle.config.specs.declared.Configured.{Configured}
-use Rattle.config.specs.declared.Configured.TheVariants.{Ok, InvalidConfiguration as Unlisted, GptNotInitialized as Off}
-use Rattle.config.specs.Fields.{Listed, configured_of, supported_of}
 use Rattle.config.specs.Index.{l0_entries, l0_index, l1_words, l1_index, size_words}
+use Rattle.config.specs.Fields.{configured_of, supported_of}
+use Rattle.config.specs.Widths.{Listed}
+use Rattle.config.specs.declared.ConfigError.{ConfigError}
+use Rattle.config.specs.declared.ConfigError.TheVariants.{GptNotInitialized, InvalidConfiguration}
 use Rattle.config.proofs.Bounds.{listed-widths}
 use Rattle.config.proofs.Geometry.{l0_in, l1_in, granule_in, l1_most, words_2_most, words_least, words_32, words_512, regions, region_in}
 use Rattle.resolve.specs.declared.Ask.{Ask}
@@ -31,8 +29,6 @@ use Rattle.resolve.specs.declared.Call.TheVariants.{Plain, Set}
 use Rattle.resolve.specs.declared.Refusal.{Refusal}
 use Rattle.resolve.specs.declared.Refusal.TheVariants.{OutsideArena}
 use Rattle.resolve.specs.declared.Site.{Site}
-use Rattle.resolve.specs.declared.Place.{Place}
-use Rattle.resolve.specs.declared.Place.TheVariants.{Refused, Block, Table}
 use Rattle.resolve.specs.Refusals.{arena_bad, gpi_bad, outside}
 use Rattle.resolve.specs.Place.{site_of, asks, table_of, configured, located, place_of}
 use Rattle.resolve.specs.Sited.{Sited, Passed, Resolved}
@@ -40,6 +36,10 @@ use Rattle.resolve.specs.Inner.{word_of, onward}
 use Rattle.resolve.proofs.Arena.{arena_fine, inside, not_outside}
 use Rattle.resolve.proofs.Chain.{Asked, few_words, bad_arena, short_log, bad_address, bad_gpi, none-met}
 use Rattle.resolve.proofs.Chain.{through, none, table_address}
+use Rattle.l0.specs.declared.L0Entry.{L0Entry}
+use Rattle.l0.specs.declared.L0Entry.TheVariants.{Block as L0Block, Table as L0Table}
+use Rattle.resolve.specs.declared.Place.{Place}
+use Rattle.resolve.specs.declared.Place.TheVariants.{Block, Table}
 
 -- the words of 512 MB, as the theory of tables counts them
 span-512 : (w : Widths) → Listed w → size_words w MB512 ≡ span (size_words w MB2) 2
@@ -77,12 +77,12 @@ module _ (q : Ask) (w : Widths) (a : ℕ) (h : Listed w)
 
 -- ---- a call that isn't refused met no test
 
-abbrev found : Place → Bool
-found (Refused r) = false
-found (Block g) = true
-found (Table s) = true
+abbrev found : Result Place Refusal → Bool
+found (Err r) = false
+found (Ok (Block g)) = true
+found (Ok (Table s)) = true
 
-not_found : {A : Type 0} {r : Refusal} {p : Place} → Refused r ≡ p → found p ≡ true → A
+not_found : {A : Type 0} {r : Refusal} {p : Result Place Refusal} → Err r ≡ p → found p ≡ true → A
 not_found h e = let z : false ≡ true = ap found h ∙ e in none (cc)
 
 module _ (q : Ask) (l : List ℕ) (w : Widths) where
@@ -99,7 +99,7 @@ module _ (q : Ask) (l : List ℕ) (w : Widths) where
 
   -- ---- a place in a table
 
-  resolved-by : (s : Site) → configured_of q.config ≡ Ok w → place_of q l ≡ Table s → Resolved q l w s
+  resolved-by : (s : Site) → configured_of q.config ≡ Ok w → place_of q l ≡ Ok (Table s) → Resolved q l w s
   resolved-by s o e = go (word_of q l w) refl (sym (through q l w o p) ∙ e)
     where
       h : Listed w
@@ -108,8 +108,8 @@ module _ (q : Ask) (l : List ℕ) (w : Widths) where
       p : Passed q l w
       p = passed o (ap found e)
 
-      last : (a : PA) → word_of q l w ≡ TableWord a → (t : Bool) → outside q.base.0 q.words a.0 (l1_words w) ≡ t
-          → cond t (Refused OutsideArena) (Table (site_of q w a.0)) ≡ Table s → Resolved q l w s
+      last : (a : PA) → word_of q l w ≡ Some (L0Table a) → (t : Bool) → outside q.base.0 q.words a.0 (l1_words w) ≡ t
+          → cond t (Err OutsideArena) (Ok (Table (site_of q w a.0))) ≡ Ok (Table s) → Resolved q l w s
       last a f true g e = none (cc)
       last a f false g e =
           let k : site_of q w a.0 ≡ s = cc in
@@ -117,25 +117,25 @@ module _ (q : Ask) (l : List ℕ) (w : Widths) where
           subst (Resolved q l w) k record {
             configured = o;
             passed = p;
-            entry = f ∙ ap (λ (x : ℕ). TableWord (pa x)) b;
+            entry = f ∙ ap (λ (x : ℕ). Some (L0Table (pa x))) b;
             site = ap (site_of q w) b;
             aligned = (arena_fine _ _ p.arena).0;
             sited = site-sited q w a.0 h p.arena g;
           }
 
-      go : (t : L0Entry) → word_of q l w ≡ t → onward q w t ≡ Table s → Resolved q l w s
-      go (BlockWord g) f e = none (cc)
-      go (TableWord a) f e = last a f (outside q.base.0 q.words a.0 (l1_words w)) refl e
-      go Invalid f e = none (cc)
+      go : (t : Option L0Entry) → word_of q l w ≡ t → onward q w t ≡ Ok (Table s) → Resolved q l w s
+      go (Some (L0Block g)) f e = none (cc)
+      go (Some (L0Table a)) f e = last a f (outside q.base.0 q.words a.0 (l1_words w)) refl e
+      go None f e = none (cc)
 
-pub resolved : (q : Ask) (l : List ℕ) (s : Site) → place_of q l ≡ Table s → (w : Widths) × Resolved q l w s
+pub resolved : (q : Ask) (l : List ℕ) (s : Site) → place_of q l ≡ Ok (Table s) → (w : Widths) × Resolved q l w s
 unfolding place_of
 resolved q l s e = go (configured_of q.config) refl e
   where
-    go : (t : Configured) → configured_of q.config ≡ t → configured t (located q l) ≡ Table s → (w : Widths) × Resolved q l w s
+    go : (t : Result Widths ConfigError) → configured_of q.config ≡ t → configured t (located q l) ≡ Ok (Table s) → (w : Widths) × Resolved q l w s
     go (Ok w) f h = (w, resolved-by q l w s f e)
-    go Unlisted f h = none (cc)
-    go Off f h = none (cc)
+    go (Err InvalidConfiguration) f h = none (cc)
+    go (Err GptNotInitialized) f h = none (cc)
 
 -- ---- the table is of its words
 
@@ -150,7 +150,7 @@ table_word A s i h = get_or-take s.words (drop s.start A) i 0 h ∙ get_or-drop 
 
 pub neighbour : (q : Ask) (l : List ℕ) (w : Widths) (s : Site) (x : ℕ) → Resolved q l w s → x < 2 ^ w.pps
     → l0_index w x ≡ l0_index w q.address.0
-    → let y = asks q.config q.words q.base.0 Plain x in place_of y l ≡ Table (site_of y w (q.base.0 + 8 * s.start))
+    → let y = asks q.config q.words q.base.0 Plain x in place_of y l ≡ Ok (Table (site_of y w (q.base.0 + 8 * s.start)))
 unfolding site_of
 neighbour q l w s x r h e =
     let p = r.passed in
@@ -159,7 +159,7 @@ neighbour q l w s x r h e =
     let n : s.words ≡ l1_words w = ap (λ (t : Site). t.words) r.site in
     let g = r.sited.fits in
     let o = not_outside q.base.0 q.words (q.base.0 + 8 * s.start) (l1_words w) (omega arith) (omega arith) in
-    let f : word_of y l w ≡ TableWord (pa (q.base.0 + 8 * s.start)) = rw e r.entry in
+    let f : word_of y l w ≡ Some (L0Table (pa (q.base.0 + 8 * s.start))) = rw e r.entry in
     rw (through y l w r.configured k, f, o)
 
 -- ---- "surplus lent words are not read": whatever stands behind the entries
@@ -175,10 +175,10 @@ surplus q l m w e h =
 
 -- ---- the GPI of a set that was let through is known and supported
 
-pub gpi-taken : (c : Config) (n : ℕ) (g : Nibble) → gpi_bad c (Set n g) ≡ false → (h : Gpi) × (g ≡ Known h) × (supported_of c h ≡ true)
-gpi-taken c n (Known h) e = (h, refl, go (supported_of c h) e)
+pub gpi-taken : (c : Config) (n : ℕ) (g : Option Gpi) → gpi_bad c (Set n g) ≡ false → (h : Gpi) × (g ≡ Some h) × (supported_of c h ≡ true)
+gpi-taken c n (Some h) e = (h, refl, go (supported_of c h) e)
   where
     go : (b : Bool) → not b ≡ false → b ≡ true
     go true e = refl
     go false e = none (cc)
-gpi-taken c n Reserved e = none (cc)
+gpi-taken c n None e = none (cc)

@@ -1,6 +1,6 @@
 -- Document 01, "What a call is lent", as one thing: every call, demand 3 and the history theorem take it. The log of a set stands beside
 -- it.
-use Rattle.std.specs.Prelude.{List, ◌≡◌, ℕ, ◌<◌, ◌^◌, length}
+use Rattle.std.specs.Prelude.{List, ◌≡◌, ℕ, ◌<◌, ◌^◌, length, Result}
 use Rattle.theory.specs.Arena.{table_at, laid}
 use Rattle.config.specs.declared.Config.{Config}
 use Rattle.config.specs.declared.Widths.{Widths}
@@ -8,9 +8,10 @@ use Rattle.config.specs.Index.{l0_index}
 use Rattle.resolve.specs.declared.Ask.{Ask}
 use Rattle.resolve.specs.declared.Call.{Call}
 use Rattle.resolve.specs.declared.Call.TheVariants.{Plain}
-use Rattle.resolve.specs.declared.Place.{Place}
 use Rattle.resolve.specs.declared.Site.{Site}
 use Rattle.resolve.specs.Place.{asks, place_of}
+use Rattle.resolve.specs.declared.Place.{Place}
+use Rattle.resolve.specs.declared.Refusal.{Refusal}
 
 -- "Lent: L0 words; arena words of 64 bits; the arena's physical base", and the fields
 pub record Lent : Type 0 where
@@ -31,10 +32,10 @@ abbrev pub ask_of : Lent → Call → ℕ → Ask
 ask_of q call x = asks q.config (length q.arena) q.base call x
 
 -- where the address x lies for a call; and for one that is no set
-abbrev pub place_for : Lent → Call → ℕ → Place
+abbrev pub place_for : Lent → Call → ℕ → Result Place Refusal
 place_for q call x = place_of (ask_of q call x) q.l0
 
-abbrev pub placed : Lent → ℕ → Place
+abbrev pub placed : Lent → ℕ → Result Place Refusal
 placed q x = place_for q Plain x
 
 -- the L1 table at a site; and the same lent with t in its place

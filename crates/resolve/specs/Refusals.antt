@@ -1,9 +1,10 @@
 -- Crate resolve. Document 01, "Numbers handed back": the refusals that all calls share, by their numbers, and the tests behind
 -- 4, 5, 6 and 8.
-use Rattle.std.specs.Prelude.{Bool, true, false, not, ◌||◌, ℕ, ◌+◌, ◌*◌, ◌%◌, ◌^◌, eqb, ltb}
-use Rattle.gpi.specs.declared.Nibble.TheVariants.{Known, Reserved}
+use Rattle.std.specs.Prelude.{Bool, true, false, not, ◌||◌, ℕ, ◌+◌, ◌*◌, ◌%◌, ◌^◌, eqb, ltb, None, Some}
 use Rattle.config.specs.declared.Config.{Config}
 use Rattle.config.specs.Fields.{supported_of}
+use Rattle.config.specs.declared.ConfigError.{ConfigError}
+use Rattle.config.specs.declared.ConfigError.TheVariants.{InvalidConfiguration as Unlisted, GptNotInitialized as Off}
 use Rattle.resolve.specs.declared.Refusal.{Refusal}
 use Rattle.resolve.specs.declared.Refusal.TheVariants.{InvalidConfiguration, GptNotInitialized, FewL0Words, BadArena, ShortLog}
 use Rattle.resolve.specs.declared.Refusal.TheVariants.{InvalidRequest, InvalidL0Entry, OutsideArena, InvalidL1Entry}
@@ -22,6 +23,11 @@ refusal_number InvalidL0Entry = 7
 refusal_number OutsideArena = 8
 refusal_number InvalidL1Entry = 9
 
+-- 1 and 2, of the configuration alone
+abbrev pub config_refusal : ConfigError → Refusal
+config_refusal Unlisted = InvalidConfiguration
+config_refusal Off = GptNotInitialized
+
 -- ---- the tests, each by what it asks
 
 -- 4: "arena base not a multiple of 4,096, or base + 8 x words above 2^52"
@@ -36,8 +42,8 @@ log_short (Set n g) = ltb n 52
 -- 6: "set with a GPI number that is unknown or unsupported"; "GPI known then supported (6)"
 abbrev pub gpi_bad : Config → Call → Bool
 gpi_bad c Plain = false
-gpi_bad c (Set n (Known g)) = not (supported_of c g)
-gpi_bad c (Set n Reserved) = true
+gpi_bad c (Set n (Some g)) = not (supported_of c g)
+gpi_bad c (Set n None) = true
 
 -- 8: "the L1 table is not wholly inside the arena": n words from a, in an arena of k words from b
 unfoldable pub outside : ℕ → ℕ → ℕ → ℕ → Bool

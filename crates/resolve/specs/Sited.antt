@@ -1,17 +1,17 @@
 -- Crate resolve. What a place in a table promises: `proofs/Promises` reads it off the order of refusals.
-use Rattle.std.specs.Prelude.{◌≡◌, false, List, ℕ, ◌+◌, ◌*◌, ◌%◌, ◌≤◌, ◌<◌, ◌^◌, length, get_or}
+use Rattle.std.specs.Prelude.{◌≡◌, false, List, ℕ, ◌+◌, ◌*◌, ◌%◌, ◌≤◌, ◌<◌, ◌^◌, length, get_or, Ok, Some}
 use Rattle.pa.specs.Pa.{pa}
 use Rattle.theory.specs.Normal.{span, base}
-use Rattle.l0.specs.declared.L0Entry.TheVariants.{Table}
 use Rattle.l0.specs.L0.{l0_of}
 use Rattle.config.specs.declared.Widths.{Widths}
-use Rattle.config.specs.declared.Configured.TheVariants.{Ok}
-use Rattle.config.specs.Fields.{Listed, configured_of}
+use Rattle.config.specs.Fields.{configured_of}
+use Rattle.config.specs.Widths.{Listed}
 use Rattle.config.specs.Index.{l0_entries, l0_index}
 use Rattle.resolve.specs.declared.Ask.{Ask}
 use Rattle.resolve.specs.declared.Site.{Site}
 use Rattle.resolve.specs.Refusals.{arena_bad, log_short, gpi_bad}
 use Rattle.resolve.specs.Place.{site_of}
+use Rattle.l0.specs.declared.L0Entry.TheVariants.{Table}
 
 -- of a site in an arena of n words
 pub record Sited (n : ℕ) (s : Site) : Type 0 where
@@ -40,7 +40,7 @@ pub record Resolved (q : Ask) (l : List ℕ) (w : Widths) (s : Site) : Type 0 wh
   pub configured : configured_of q.config ≡ Ok w
   pub passed : Passed q l w
   -- the table's address is the arena's base and eight bytes a word
-  pub entry : l0_of (get_or l (l0_index w q.address.0) 0) ≡ Table (pa (q.base.0 + 8 * s.start))
+  pub entry : l0_of (get_or l (l0_index w q.address.0) 0) ≡ Some (Table (pa (q.base.0 + 8 * s.start)))
   pub site : s ≡ site_of q w (q.base.0 + 8 * s.start)
   pub aligned : q.base.0 % 4096 ≡ 0
   pub sited : Sited q.words s

@@ -3,73 +3,76 @@
 #![tactic(auto)]
 
 ghost use Rattle.std.specs.Prelude.{◌≡◌, false, ◌≤◌, ◌<◌, ◌^◌};
-ghost use Rattle.resolve.specs.Refusals.{refusal_number, arena_bad, log_short, gpi_bad, outside};
-ghost use Rattle.config.specs.Fields.{configured_of, Listed};
-ghost use Rattle.resolve.specs.Place.{site_of, place_of, asks};
+ghost use Rattle.resolve.specs.Refusals.{refusal_number, config_refusal, arena_bad, log_short, gpi_bad, outside};
+ghost use Rattle.config.specs.Fields.{configured_of};
+ghost use Rattle.resolve.specs.Place.{site_of, place_of};
 ghost use Rattle.resolve.specs.Sited.{Passed};
 ghost use Rattle.resolve.specs.Inner.{Told, Entry, word_of, onward};
-ghost use Rattle.resolve.specs.declared.Call.TheVariants.{Plain};
 
-use config::{Config, Configured, Widths};
-use gpi::{Gpi, Nibble, Size};
+use config::{Config, ConfigError, Widths};
+use gpi::{Gpi, Size};
+use granules::GranuleIndex;
 use l0::L0Entry;
 use pa::PA;
 
-// Why a call is refused: document 01's 1 to 9. The Rust's `Error` and `GranuleError`, and what is added to them.
-#[derive(Clone, Copy)]
+// Why a call is refused: document 01's 1 to 9, by their numbers there. The Rust's `Error` and `GranuleError`, and what is added to them.
+#[derive(Clone, Copy, PartialEq, Eq)]
 pub enum Refusal {
-    InvalidConfiguration,
-    GptNotInitialized,
-    FewL0Words,
-    BadArena,
-    ShortLog,
-    InvalidRequest,
-    InvalidL0Entry,
-    OutsideArena,
-    InvalidL1Entry,
+    InvalidConfiguration = 1,
+    GptNotInitialized = 2,
+    FewL0Words = 3,
+    BadArena = 4,
+    ShortLog = 5,
+    InvalidRequest = 6,
+    InvalidL0Entry = 7,
+    OutsideArena = 8,
+    InvalidL1Entry = 9,
 }
 
 // The paper's number of a refusal.
-pub fn refusal_number(r: Refusal) -> u64
-    ensures { result ≡ refusal_number r }
-{
-    match r {
-        Refusal::InvalidConfiguration => 1,
-        Refusal::GptNotInitialized => 2,
-        Refusal::FewL0Words => 3,
-        Refusal::BadArena => 4,
-        Refusal::ShortLog => 5,
-        Refusal::InvalidRequest => 6,
-        Refusal::InvalidL0Entry => 7,
-        Refusal::OutsideArena => 8,
-        Refusal::InvalidL1Entry => 9,
+impl From<Refusal> for u64 {
+    ghost from_gives = { λ r n. n ≡ refusal_number r };
+
+    #[inline(always)]
+    fn from(r: Refusal) -> u64 {
+        r as u64
     }
 }
 
-// What a call asks besides an address: a set has its log's words and its GPI, as the number was read.
+impl From<ConfigError> for Refusal {
+    ghost from_gives = { λ e r. r ≡ config_refusal e };
+
+    #[inline(always)]
+    fn from(e: ConfigError) -> Refusal {
+        match e {
+            ConfigError::InvalidConfiguration => Refusal::InvalidConfiguration,
+            ConfigError::GptNotInitialized => Refusal::GptNotInitialized,
+        }
+    }
+}
+
+// What a call asks besides an address: a set has its log's words and its GPI, as the number was read. No Option of what a set asks: `Plain`
+// is a kind of call, of which the definitions and theorems speak.
 #[derive(Clone, Copy)]
 pub enum Call {
     Plain,
-    Set(usize, Nibble),
+    Set(usize, Option<Gpi>),
 }
 
 // The end of the physical addresses, 2^52.
 const TOP: u64 = 0x10_0000_0000_0000;
 
 // Whether the arena is out of order. Its end is never computed before it is known to be in order, so nothing wraps.
+#[inline(always)]
 #[tactic(auto, using(std::proofs::lemmas::Bool::Decides::nat_tests), unfolding(crate::specs::Refusals::arena_bad))]
 pub fn arena_bad(base: PA, words: usize) -> bool
     ensures { result ≡ arena_bad base.0 words }
 {
-    if base.0 % 4096 != 0 {
-        return true;
-    }
-    if TOP < base.0 {
-        return true;
-    }
-    (TOP - base.0) / 8 < words as u64
+    base.0 % 4096 != 0 || TOP < base.0 || (TOP - base.0) / 8 < words as u64
 }
 
+// Whether the log is too short for a set.
+#[inline(always)]
 pub fn log_short(call: Call) -> bool
     ensures { result ≡ log_short call }
 {
@@ -79,29 +82,28 @@ pub fn log_short(call: Call) -> bool
     }
 }
 
+// Whether the GPI of a set is unknown or unsupported.
+#[inline(always)]
 pub fn gpi_bad(c: Config, call: Call) -> bool
     ensures { result ≡ gpi_bad c call }
 {
     match call {
         Call::Plain => false,
-        Call::Set(_, n) => match n {
-            Nibble::Known(g) => !config::is_gpi_supported(c, g),
-            Nibble::Reserved => true,
-        },
+        Call::Set(_, Some(g)) => !c.is_gpi_supported(g),
+        Call::Set(_, None) => true,
     }
 }
 
 // Whether a table at a isn't wholly inside an arena that is in order.
+#[inline(always)]
+#[tactic(auto, using(crate::proofs::Arena::arena_fine), unfolding(crate::specs::Refusals::outside))]
 pub fn is_outside(base: PA, words: usize, a: PA, n: usize) -> bool
     requires words_value { arena_bad base.0 words ≡ false }
     requires a_bound { a.0 < 2 ^ 52 }
     requires n_bound { n ≤ 2 ^ 23 }
     ensures { result ≡ outside base.0 words a.0 n }
 {
-    if a.0 < base.0 {
-        return true;
-    }
-    base.0 + 8 * (words as u64) < a.0 + 8 * (n as u64)
+    a.0 < base.0 || base.0 + 8 * (words as u64) < a.0 + 8 * (n as u64)
 }
 
 // What a call is lent, as far as the refusals go: the arena's words are counted and not read. The L0 words stand beside it.
@@ -114,7 +116,8 @@ pub struct Ask {
     pub call: Call,
 }
 
-// The L1 table as a part of the arena, and the address's place in it.
+// The L1 table as a part of the arena, and the address's place in it. Numbers and no slice: a lookup is lent the arena to read and a set to
+// write, and the refusals ask its length alone.
 #[derive(Clone, Copy)]
 pub struct Site {
     // the arena's index of the table's first word
@@ -123,133 +126,107 @@ pub struct Site {
     pub words: usize,
     // the table's index of the address's word, and its granule there
     pub index: usize,
-    pub granule: u64,
+    pub granule: GranuleIndex,
     // the words of 2 MB, and the bytes of a granule
     pub unit: usize,
     pub bytes: u64,
 }
 
+// Where an address lies that isn't refused.
 #[derive(Clone, Copy)]
 pub enum Place {
-    Refused(Refusal),
     Block(Gpi),
     Table(Site),
 }
 
+#[inline(always)]
+#[tactic(auto, unfolding(crate::specs::Place::site_of))]
 fn site_at(q: Ask, w: Widths, a: PA) -> Site
-    requires listed { Listed w }
-    requires base_le_a { q.base.0 ≤ a.0 }
+    requires { q.base.0 ≤ a.0 }
     ensures { result ≡ site_of q w a.0 }
 {
     let base = q.base;
     let address = q.address;
     Site {
         start: ((a.0 - base.0) / 8) as usize,
-        words: config::l1_words(w),
-        index: config::l1_resolve(w, address),
-        granule: config::granule_resolve(w, address),
-        unit: config::size_words(w, Size::MB2),
-        bytes: config::granule_bytes(w),
+        words: w.l1_words(),
+        index: w.l1_resolve(address),
+        granule: w.granule_resolve(address),
+        unit: w.size_words(Size::MB2),
+        bytes: w.granule_bytes(),
     }
 }
 
-// What a call meets before its L0 word is read: the widths to read it by, or the first refusal.
-#[derive(Clone, Copy)]
-enum Admitted {
-    Ok(Widths),
-    Refused(Refusal),
-}
-
-// The refusals 1 to 6 in their order. The tests are asked first and judged then: one that is called behind several others counts as rare,
-// and the compiler would leave its call standing in a lookup.
+// What a call meets before its L0 word is read: the widths to read it by, or the first of the refusals 1 to 6 in their order. The tests are
+// asked first and judged then: one that is called behind several others counts as rare, and the compiler would leave its call standing in a
+// lookup.
+#[inline(always)]
 #[tactic(auto, using(std::proofs::lemmas::Bool::Decides::nat_tests), unfolding(crate::specs::Place::place_of, crate::specs::Place::located))]
-fn admit(d: Configured, l0: &[u64], q: Ask) -> Admitted
+fn admit(d: Result<Widths, ConfigError>, l0: &[u64], q: Ask) -> Result<Widths, Refusal>
     requires { d ≡ configured_of q.config }
     ensures { Told q l0.now result }
 {
-    match d {
-        Configured::Ok(w) => {
-            let address = q.address;
-            let call = q.call;
-            let few = (l0.len() as u64) < config::l0_entries(w);
-            let bad = arena_bad(q.base, q.words);
-            let short = log_short(call);
-            let high = config::pow2(w.pps) <= address.0;
-            let gpi = gpi_bad(q.config, call);
-            if few {
-                return Admitted::Refused(Refusal::FewL0Words);
-            }
-            if bad {
-                return Admitted::Refused(Refusal::BadArena);
-            }
-            if short {
-                return Admitted::Refused(Refusal::ShortLog);
-            }
-            if high {
-                return Admitted::Refused(Refusal::InvalidRequest);
-            }
-            if gpi {
-                return Admitted::Refused(Refusal::InvalidRequest);
-            }
-            Admitted::Ok(w)
-        }
-        Configured::InvalidConfiguration => Admitted::Refused(Refusal::InvalidConfiguration),
-        Configured::GptNotInitialized => Admitted::Refused(Refusal::GptNotInitialized),
+    let w = d?;
+    let address = q.address;
+    let few = (l0.len() as u64) < w.l0_entries();
+    let bad = arena_bad(q.base, q.words);
+    let short = log_short(q.call);
+    let high = config::pow2(w.pps) <= address.0;
+    let gpi = gpi_bad(q.config, q.call);
+    if few {
+        return Err(Refusal::FewL0Words);
     }
+    if bad {
+        return Err(Refusal::BadArena);
+    }
+    if short {
+        return Err(Refusal::ShortLog);
+    }
+    if high {
+        return Err(Refusal::InvalidRequest);
+    }
+    if gpi {
+        return Err(Refusal::InvalidRequest);
+    }
+    Ok(w)
 }
 
 // What the L0 word of an address says.
-fn l0_word(l0: &[u64], q: Ask, w: Widths) -> L0Entry
+#[inline(always)]
+#[tactic(auto, using(config::proofs::Geometry::l0_in))]
+fn l0_word(l0: &[u64], q: Ask, w: Widths) -> Option<L0Entry>
     requires { Passed q l0.now w }
     ensures { result ≡ word_of q l0.now w }
 {
-    let i = config::l0_resolve(w, q.address);
-    l0::l0_entry(l0[i])
+    L0Entry::try_from(l0[w.l0_resolve(q.address)]).ok()
 }
 
 // The refusals 7 and 8, of what the L0 word says: from there a block, or a table's place.
-fn enter(e: L0Entry, q: Ask, w: Widths) -> Place
+#[inline(always)]
+#[tactic(auto, using(config::proofs::Geometry::l1_most, crate::proofs::Arena::inside, crate::proofs::Chain::table_below))]
+fn enter(e: Option<L0Entry>, q: Ask, w: Widths) -> Result<Place, Refusal>
     requires entry { Entry e }
     requires words_value { arena_bad q.base.0 q.words ≡ false }
-    requires listed { Listed w }
     ensures { result ≡ onward q w e }
 {
-    match e {
-        L0Entry::Block(g) => Place::Block(g),
+    match e.ok_or(Refusal::InvalidL0Entry)? {
+        L0Entry::Block(g) => Ok(Place::Block(g)),
         L0Entry::Table(a) => {
-            if is_outside(q.base, q.words, a, config::l1_words(w)) {
-                return Place::Refused(Refusal::OutsideArena);
+            if is_outside(q.base, q.words, a, w.l1_words()) {
+                return Err(Refusal::OutsideArena);
             }
-            Place::Table(site_at(q, w, a))
+            Ok(Place::Table(site_at(q, w, a)))
         }
-        L0Entry::Invalid => Place::Refused(Refusal::InvalidL0Entry),
     }
 }
 
-// Where an address lies, or why it is refused.
-pub fn resolve(l0: &[u64], q: Ask) -> Place
+// Where an address lies, or why it is refused. In line: a lookup is then without a call and without a place in memory, which is what makes
+// it no slower than the Rust's.
+#[inline(always)]
+#[tactic(auto, using(crate::proofs::Chain::through))]
+pub fn resolve(l0: &[u64], q: Ask) -> Result<Place, Refusal>
     ensures { result ≡ place_of q l0.now }
 {
-    match admit(config::configure(q.config), l0, q) {
-        Admitted::Ok(w) => enter(l0_word(l0, q, w), q, w),
-        Admitted::Refused(r) => Place::Refused(r),
-    }
-}
-
-// As `resolve`, by the same pieces, for a lookup and for the dump's walk. In the C interface a lookup is its one caller, so that the
-// compiler lays it in there: that is then without a call and without a place in memory, which is what makes it no slower than the Rust's.
-pub fn find(l0: &[u64], c: Config, words: usize, base: PA, address: PA) -> Place
-    ensures { result ≡ place_of (asks c words base.0 Plain address.0) l0.now }
-{
-    let q = Ask {
-        config: c,
-        words,
-        base,
-        address,
-        call: Call::Plain,
-    };
-    match admit(config::configure(c), l0, q) {
-        Admitted::Ok(w) => enter(l0_word(l0, q, w), q, w),
-        Admitted::Refused(r) => Place::Refused(r),
-    }
+    let w = admit(q.config.configure(), l0, q)?;
+    enter(l0_word(l0, q, w), q, w)
 }

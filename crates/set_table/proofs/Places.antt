@@ -8,8 +8,8 @@ use lib.ListN.{length}
 use Rattle.theory.specs.Normal.{span, base}
 use Rattle.theory.proofs.Ranges.{span_pos, base-hi}
 use Rattle.theory.specs.Events.{Event}
-use Rattle.stores.specs.declared.Tally.{Tally}
-use Rattle.stores.specs.Done.{Done, Room}
+use Rattle.stores.specs.declared.Journal.{Journal}
+use Rattle.stores.specs.Journal.{Journaled, Space}
 use Rattle.stores.proofs.Events.{kept_table}
 use Rattle.set_table.specs.Inner.{Placed}
 
@@ -50,7 +50,7 @@ lies {t} {i} {u} p l n h e =
     }
 
 -- events leave the table as long as it was
-pub still : {o i u : ℕ} {es : List Event} {t t' l l' : List ℕ} {a b : Tally} → Done o es t t' l l' a b → Placed t i u → Placed t' i u
+pub still : {es : List Event} {j k : Journal} {i u : ℕ} → Journaled es j k → Placed j.table.now i u → Placed k.table.now i u
 still d p =
     let e = kept_table d in
     record {
@@ -62,5 +62,6 @@ still d p =
     }
 
 -- what a fill asks
-abbrev pub Fills : List ℕ → List ℕ → ℕ → Tally → ℕ → ℕ → Type 0
-Fills T L o a at n = (at + n ≤ length T) × Room T L o a 1 n
+pub record Fills (j : Journal) (at n : ℕ) : Type 0 where
+  pub inside : at + n ≤ length j.table.now
+  pub room : Space j 1 n

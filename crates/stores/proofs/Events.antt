@@ -1,5 +1,5 @@
--- Laws of `Done` and `Room` of the crate `stores`: no event, one event, events after events; what stays of the lengths, and the room that
--- is left.
+-- Laws of `Journaled` and `Space` of the crate `stores`: no event, one event, events after events; what stays of the lengths, and the room
+-- that is left.
 use mathlib.Core.Path.{◌≡◌, refl, ap, ◌∙◌}
 use mathlib.Core.List.{List, [], ◌∷◌, ◌++◌, append-nil}
 use Prim.Native.Nat.{ℕ, zero, suc, ◌+◌, ◌*◌, ◌≤◌, ◌<◌}
@@ -14,27 +14,41 @@ use Rattle.theory.proofs.Events.{stores-append, logged-append, length-logged}
 use Rattle.theory.proofs.Set.{count-append}
 use Rattle.theory.proofs.Stores.{each_append, each_fill, apply-append, length-apply}
 use Rattle.stores.specs.declared.Tally.{Tally}
-use Rattle.stores.specs.Done.{Done, Room}
+use Rattle.stores.specs.declared.Journal.{Journal}
+use Rattle.stores.specs.Done.{Done}
+use Rattle.stores.specs.Journal.{Same, Journaled, Space}
 
 -- ---- no event, one event
 
-pub none : (o : ℕ) (t l : List ℕ) (a : Tally) → Done o [] t t l l a a
+pub nothing : (o : ℕ) (t l : List ℕ) (a : Tally) → Done o [] t t l l a a
 unfolding stores apply logged records count
-none o t l a = record { inside = tt; table = refl; log = refl; records = omega arith; stores = omega arith }
+nothing o t l a = record { inside = tt; table = refl; log = refl; records = omega arith; stores = omega arith }
+
+pub none : (j : Journal) → Journaled [] j j
+none j = record { same = record { table = refl; log = refl; offset = refl }; done = nothing j.offset j.table.now j.log.now j.tally }
 
 -- what one event stored and logged
-pub one : (o : ℕ) (e : Event) (t t' l l' : List ℕ) (a b : Tally) → Inside (length t) (stores_of e) → t' ≡ apply t (stores_of e)
-    → l' ≡ sets l (4 * a.records) (record_of o e) → b.records ≡ a.records + 1 → b.stores ≡ a.stores + count_of e
-    → Done o (e ∷ []) t t' l l' a b
-unfolding stores logged records count
-one o e t t' l l' a b inn p q r s =
-    record {
-      inside = rw append-nil inn;
-      table = rw append-nil p;
-      log = rw append-nil q;
-      records = r;
-      stores = rw add-zero s;
-    }
+module _ {j k : Journal} (s : Same j k) where
+  pub one : (e : Event) → Inside (length j.table.now) (stores_of e) → k.table.now ≡ apply j.table.now (stores_of e)
+      → k.log.now ≡ sets j.log.now (4 * j.tally.records) (record_of j.offset e)
+      → k.tally.records ≡ j.tally.records + 1 → k.tally.stores ≡ j.tally.stores + count_of e → Journaled (e ∷ []) j k
+  unfolding stores logged records count
+  one e inn p q r c =
+      record {
+        same = s;
+        done = record { inside = rw append-nil inn; table = rw append-nil p; log = rw append-nil q; records = r; stores = rw add-zero c };
+      }
+
+  -- a fill
+  pub fill_done : (at n w : ℕ) → at + n ≤ length j.table.now → 0 < n → (i : ℕ) → i ≤ n → n ≤ i
+      → k.table.now ≡ apply j.table.now (fill at i w)
+      → k.log.now ≡ sets j.log.now (4 * j.tally.records) (1 ∷ (j.offset + at) ∷ n ∷ w ∷ [])
+      → k.tally.records ≡ j.tally.records + 1 → k.tally.stores ≡ j.tally.stores + n → Journaled (fill_event at n w) j k
+  unfolding fill_event
+  fill_done at zero w inn pos i up down p q r c = absurd (omega arith)
+  fill_done at (suc n) w inn pos i up down p q r c =
+      let e : i ≡ suc n = omega arith in
+      one (Filled at (suc n) w) (each_fill _ at (suc n) w (λ i lo hi. omega arith)) (rw e at p) q r c
 
 -- ---- events after events
 
@@ -51,40 +65,32 @@ after {o} {es} {fs} {t} {t'} {t''} {l} {l'} {l''} {a} {b} {d} p q =
       stores = rw (count-append es fs) (omega (arith, p.stores, q.stores));
     }
 
--- ---- a fill
-
-pub fill_done : (o at k w : ℕ) (t t' l l' : List ℕ) (a b : Tally) → at + k ≤ length t → 0 < k
-    → (j : ℕ) → j ≤ k → k ≤ j → t' ≡ apply t (fill at j w)
-    → l' ≡ sets l (4 * a.records) (1 ∷ (o + at) ∷ k ∷ w ∷ []) → b.records ≡ a.records + 1 → b.stores ≡ a.stores + k
-    → Done o (fill_event at k w) t t' l l' a b
-unfolding fill_event
-fill_done o at zero w t t' l l' a b inn pos j up down p q r s = absurd (omega arith)
-fill_done o at (suc k) w t t' l l' a b inn pos j up down p q r s =
-    let e : j ≡ suc k = omega arith in
-    one o (Filled at (suc k) w) t t' l l' a b (each_fill _ at (suc k) w (λ i lo hi. omega arith)) (rw e at p) q r s
-
-pub fill_none : (o at k w : ℕ) (t l : List ℕ) (a : Tally) → k ≡ 0 → Done o (fill_event at k w) t t l l a a
-unfolding fill_event
-fill_none o at k w t l a e = rw e (none o t l a)
+-- and so of a journal
+pub later : {es fs : List Event} {i j k : Journal} → Journaled es i j → Journaled fs j k → Journaled (es ++ fs) i k
+later x y =
+    record {
+      same = record { table = y.same.table ∙ x.same.table; log = y.same.log ∙ x.same.log; offset = y.same.offset ∙ x.same.offset };
+      done = after x.done (rw x.same.offset at y.done);
+    }
 
 -- ---- what stays, and what is left
 
 -- less room is there too
-pub less : {t l : List ℕ} {o : ℕ} {a : Tally} (k n i j : ℕ) → Room t l o a k n → i ≤ k → j ≤ n → Room t l o a i j
-less k n i j r x y = record { arena = r.arena; room = omega (arith, r.room); few = omega (arith, r.few) }
+pub less : {j : Journal} {r n : ℕ} (r' n' : ℕ) → Space j r n → r' ≤ r → n' ≤ n → Space j r' n'
+less r' n' s x y = record { arena = s.arena; room = omega (arith, s.room); few = omega (arith, s.few) }
 
-module _ {o : ℕ} {es : List Event} {t t' l l' : List ℕ} {a b : Tally} (d : Done o es t t' l l' a b) where
-  pub kept_table : length t' ≡ length t
-  kept_table = ap length d.table ∙ length-apply t (stores es)
+module _ {es : List Event} {j k : Journal} (d : Journaled es j k) where
+  pub kept_table : length k.table.now ≡ length j.table.now
+  kept_table = ap length d.done.table ∙ length-apply j.table.now (stores es)
 
-  pub kept_log : length l' ≡ length l
-  kept_log = ap length d.log ∙ length-logged o a.records es l
+  kept_log : length k.log.now ≡ length j.log.now
+  kept_log = ap length d.done.log ∙ length-logged j.offset j.tally.records es j.log.now
 
-  -- of the room for k and n, what these events leave
-  pub left : (k n i j : ℕ) → Room t l o a k n → length es + i ≤ k → count es + j ≤ n → Room t' l' o b i j
-  left k n i j r x y =
+  -- of the room for r and n, what these events leave
+  pub left : {r n : ℕ} (r' n' : ℕ) → Space j r n → length es + r' ≤ r → count es + n' ≤ n → Space k r' n'
+  left r' n' s x y =
       record {
-        arena = rw kept_table r.arena;
-        room = rw kept_log (omega (arith, r.room, d.records));
-        few = omega (arith, r.few, d.stores);
+        arena = omega (arith, s.arena, d.same.offset, kept_table);
+        room = omega (arith, s.room, d.done.records, kept_log);
+        few = omega (arith, s.few, d.done.stores);
       }

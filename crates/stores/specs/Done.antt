@@ -1,5 +1,4 @@
--- What a routine of the crate `stores` promises: its events happened, and nothing else; and what it asks. Document 01: "each one's contract
--- states its words and its own record together".
+-- That events happened, and nothing else; and the room that they take: over a table, a log and a tally by themselves. Of the crate `stores`.
 use Rattle.std.specs.Prelude.{◌≡◌, List, ℕ, ◌+◌, ◌*◌, ◌≤◌, ◌<◌, ◌^◌, length}
 use Rattle.theory.specs.Stores.{apply, Inside}
 use Rattle.theory.specs.Events.{Event, stores, count, logged}

@@ -1,1 +1,3 @@
 pub mod Done
+pub mod Journal
+mod Kind

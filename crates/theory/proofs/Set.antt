@@ -7,14 +7,11 @@ use Prim.Native.Nat.{ℕ, zero, suc, ◌+◌, ◌-◌, ◌*◌, ◌≤◌, ◌<�
 use native.Mathlib.Nat.{add-zero, zero-add, add_assoc}
 use native.Mathlib.Omega.{arith}
 use lib.ListN.{length, length-append}
+use Rattle.std.specs.Prelude.{Err, None, Ok, Option, Result, Some}
 use Rattle.theory.specs.Format.{Format, Laws, gpi, reads}
 use Rattle.theory.specs.Normal.{at, span, base, In, every, alike}
 use Rattle.theory.specs.Stores.{Store, apply, Each, Inside}
 use Rattle.theory.specs.Events.{Event, granule, stores, count_of, count}
-use Rattle.theory.specs.declared.Scan.{Scan}
-use Rattle.theory.specs.declared.Scan.TheVariants.{All, Differs, Invalid}
-use Rattle.theory.specs.declared.Fused.{Fused}
-use Rattle.theory.specs.declared.Fused.TheVariants.{Nowhere, Level, Refused}
 use Rattle.theory.specs.Set.{Target, fill_event, barriers, shatter, breaks, broken, broken_barriers, new_word, changed}
 use Rattle.theory.specs.Set.{scan, on_scan, climb, fusing, fused, store_events, set_events, set_stores}
 use Rattle.theory.proofs.Stores.{each_append, each_fill, each_of, apply-append}
@@ -51,7 +48,7 @@ module _ (F : Format) (u : ℕ) (t : List ℕ) (q : Target) where
   changed-is = rw stores-lead (apply-append t (stores (broken F u t q.word)) (granule_store F t q ∷ []))
 
   -- "Refusal 10 leaves the shattered words and the new granule stored, nothing fused."
-  pub set-refused : (k : ℕ) → fusing F u t q ≡ Refused k → set_events F u t q ≡ store_events F u t q
+  pub set-refused : (k : ℕ) → fusing F u t q ≡ Err k → set_events F u t q ≡ store_events F u t q
   unfolding set_events fused
   set-refused k e = rw e (append-nil (store_events F u t q))
 
@@ -83,13 +80,13 @@ broken-at F L u u-pos t i b = go (F.size (at t i)) refl
 
 -- ---- after it: what the scans find
 
-scan_step : (v x : Bool) (s : Scan) (k : ℕ) (y : Bool) → cond v (cond x s Differs) (Invalid k) ≡ All → (s ≡ All → y ≡ true)
+scan_step : (v x : Bool) (s : Result Bool ℕ) (k : ℕ) (y : Bool) → cond v (cond x s (Ok false)) (Err k) ≡ Ok true → (s ≡ Ok true → y ≡ true)
     → (x && y) ≡ true
 scan_step true true s k y e h = h e
 scan_step true false s k y e h = cc
 scan_step false x s k y e h = cc
 
-scan-every : (F : Format) (r : ℕ → ℕ) (g a n : ℕ) → scan F r g a n ≡ All → every (λ j. reads F (r j) g) a n ≡ true
+scan-every : (F : Format) (r : ℕ → ℕ) (g a n : ℕ) → scan F r g a n ≡ Ok true → every (λ j. reads F (r j) g) a n ≡ true
 unfolding scan every
 scan-every F r g a zero e = refl
 scan-every F r g a (suc n) e =
@@ -101,43 +98,43 @@ module _ (F : Format) (u : ℕ) (r : ℕ → ℕ) (g i : ℕ) where
   Matched k = (k < 3) × (alike F r (span u k) i g ≡ true)
 
   -- a climb that ends at a level has matched there
-  climb-level : (l : ℕ) (best : Fused) (n : ℕ) → l + n ≤ 3 → (k : ℕ) → (best ≡ Level k → Matched k) → climb F u r g i l best n ≡ Level k
+  climb-level : (l : ℕ) (best : Result (Option ℕ) ℕ) (n : ℕ) → l + n ≤ 3 → (k : ℕ) → (best ≡ Ok (Some k) → Matched k) → climb F u r g i l best n ≡ Ok (Some k)
       → Matched k
   unfolding climb alike
   climb-level l best zero b k h e = h e
   climb-level l best (suc n) b k h e =
-      go (scan F r g (base (span u l) i) (span u l)) refl e (climb-level (suc l) (Level l) n (omega arith) k)
+      go (scan F r g (base (span u l) i) (span u l)) refl e (climb-level (suc l) (Ok (Some l)) n (omega arith) k)
     where
-      go : (s : Scan) → scan F r g (base (span u l) i) (span u l) ≡ s → on_scan s (climb F u r g i (suc l) (Level l) n) best ≡ Level k
-          → ((Level l ≡ Level k → Matched k) → climb F u r g i (suc l) (Level l) n ≡ Level k → Matched k) → Matched k
-      go All p q ih = ih (λ w. let q' : l ≡ k = cc in rw (← q') (omega arith, scan-every F r g (base (span u l) i) (span u l) p)) q
-      go Differs p q ih = h q
-      go (Invalid a) p q ih = let z : ◌≡◌ {A = ℕ} 0 1 = cc in absurd (omega arith)
+      go : (s : Result Bool ℕ) → scan F r g (base (span u l) i) (span u l) ≡ s → on_scan s (climb F u r g i (suc l) (Ok (Some l)) n) best ≡ Ok (Some k)
+          → ((◌≡◌ {A = Result (Option ℕ) ℕ} (Ok (Some l)) (Ok (Some k)) → Matched k) → climb F u r g i (suc l) (Ok (Some l)) n ≡ Ok (Some k) → Matched k) → Matched k
+      go (Ok true) p q ih = ih (λ w. let q' : l ≡ k = cc in rw (← q') (omega arith, scan-every F r g (base (span u l) i) (span u l) p)) q
+      go (Ok false) p q ih = h q
+      go (Err a) p q ih = let z : ◌≡◌ {A = ℕ} 0 1 = cc in absurd (omega arith)
 
-  pub climbed : (k : ℕ) → climb F u r g i 0 Nowhere 3 ≡ Level k → (k < 3) × (alike F r (span u k) i g ≡ true)
-  climbed k = climb-level 0 Nowhere 3 (omega arith) k (λ w. let z : ◌≡◌ {A = ℕ} 0 1 = cc in absurd (omega arith))
+  pub climbed : (k : ℕ) → climb F u r g i 0 (Ok None) 3 ≡ Ok (Some k) → (k < 3) × (alike F r (span u k) i g ≡ true)
+  climbed k = climb-level 0 (Ok None) 3 (omega arith) k (λ w. let z : ◌≡◌ {A = ℕ} 0 1 = cc in absurd (omega arith))
 
 module _ (F : Format) (u : ℕ) (t : List ℕ) (q : Target) where
   -- a range that is fused was all of the new GPI before
-  pub fusing-level : (l : ℕ) → fusing F u t q ≡ Level l → (l < 3) × (alike F (at (changed F u t q)) (span u l) q.word q.gpi ≡ true)
+  pub fusing-level : (l : ℕ) → fusing F u t q ≡ Ok (Some l) → (l < 3) × (alike F (at (changed F u t q)) (span u l) q.word q.gpi ≡ true)
   unfolding fusing
   fusing-level l e = climbed F u (at (changed F u t q)) q.gpi q.word l e
 
   -- a P of every store of such a fuse is one of every store after the granule store
   pub each_fused : (P : Store → Type 0)
-      → ((l : ℕ) → fusing F u t q ≡ Level l
+      → ((l : ℕ) → fusing F u t q ≡ Ok (Some l)
       → (k : ℕ) → In (span u l) q.word k → P (record { index = k; word = F.contig l q.gpi }))
       → Each P (stores (last F u t q))
   unfolding fused stores
   each_fused P h = go (fusing F u t q) refl
     where
-      go : (f : Fused) → fusing F u t q ≡ f → Each P (stores (fused F u q.gpi q.word f))
-      go Nowhere e = tt
-      go (Level l) e =
+      go : (f : Result (Option ℕ) ℕ) → fusing F u t q ≡ f → Each P (stores (fused F u q.gpi q.word f))
+      go (Ok None) e = tt
+      go (Ok (Some l)) e =
           rw (stores-fill (base (span u l) q.word) (span u l) (F.contig l q.gpi))
           (each_fill P (base (span u l) q.word) (span u l) (F.contig l q.gpi)
           (λ k lo hi. h l e k (in_of (span u l) q.word k lo hi)))
-      go (Refused k) e = tt
+      go (Err k) e = tt
 
   -- ---- in a table of m ranges of 512 MB every store of a set lies within the table
 
@@ -181,11 +178,11 @@ few_broken F L u t i x = go (F.size (at t i)) refl
     go zero e = omega arith
     go (suc l) e = simp length-append (omega (arith, few_shatter F u (gpi F (at t i)) i l, L.size_small (at t i) l e))
 
-pub few_fused : (F : Format) (u g i : ℕ) (f : Fused) → length (fused F u g i f) ≤ 1
+pub few_fused : (F : Format) (u g i : ℕ) (f : Result (Option ℕ) ℕ) → length (fused F u g i f) ≤ 1
 unfolding fused
-few_fused F u g i Nowhere = omega arith
-few_fused F u g i (Level l) = few (base (span u l) i) (span u l) (F.contig l g)
-few_fused F u g i (Refused k) = omega arith
+few_fused F u g i (Ok None) = omega arith
+few_fused F u g i (Ok (Some l)) = few (base (span u l) i) (span u l) (F.contig l g)
+few_fused F u g i (Err k) = omega arith
 
 -- "At most 13 records."
 pub at-most_13 : (F : Format) → Laws F → (u : ℕ) (t : List ℕ) (q : Target) → length (set_events F u t q) ≤ 13

@@ -10,13 +10,12 @@ use native.Mathlib.Omega.{arith}
 use borrow.Author.Tests.{eq-eqb, ne_eqb}
 use lib.ListN.{length, set, length-set, take}
 use lib.Seq.{get_or-set_same, get_or-set_other}
+use Rattle.std.specs.Prelude.{Err, None, Ok, Option, Result, Some}
 use Rattle.theory.specs.Format.{Format, Laws, gpi, reads}
 use Rattle.theory.specs.Normal.{at, span, base, In, normal_word, build, normal}
 use Rattle.theory.specs.Stores.{apply, fill}
 use Rattle.theory.specs.Mend.{mend, mends, repairs, mending}
 use Rattle.theory.specs.Events.{stores}
-use Rattle.theory.specs.declared.Fused.{Fused}
-use Rattle.theory.specs.declared.Fused.TheVariants.{Nowhere, Level, Refused}
 use Rattle.theory.specs.Set.{Target, shatter, breaks, broken, new_word, fused, fusing, set_stores, Agrees, Aimed}
 use Rattle.theory.specs.Whole.{Same, Whole}
 use Rattle.theory.proofs.Lists.{length-build, at-build}
@@ -215,13 +214,13 @@ module _ (F : Format) (L : Laws F) (u : ℕ) (u-pos : 0 < u) where
         rw (stores-set F u t q, apply-append t (stores (broken F u t i)) (granule_store F t q ∷ stores (last F u t q)))
         (go (fusing F u t q) refl)
       where
-        go : (f : Fused) → fusing F u t q ≡ f → Whole F u (apply t₂ (stores (fused F u q.gpi i f)))
-        go Nowhere e = whole₂
-        go (Level l) e =
+        go : (f : Result (Option ℕ) ℕ) → fusing F u t q ≡ f → Whole F u (apply t₂ (stores (fused F u q.gpi i f)))
+        go (Ok None) e = whole₂
+        go (Ok (Some l)) e =
             rw (stores-fill (base (span u l) i) (span u l) (F.contig l q.gpi))
             (fuse-whole t₂ m (len₂ ∙ regions) i (omega (arith, len₂, a.is_word)) whole₂ q.gpi l a.is_gpi
             (fusing-level F u t q l e).0 size₂)
-        go (Refused k) e = whole₂
+        go (Err k) e = whole₂
 
   -- Mends of any table, of any limits, and then one that no limit stops, leave a whole table: it is the normal table of the start.
   pub mends-whole : (t : List ℕ) (m : ℕ) → length t ≡ m * span u 2 → (ks : List ℕ) (n : ℕ) → length t ≤ n

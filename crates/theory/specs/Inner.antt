@@ -1,4 +1,4 @@
--- Mend as its code goes: a walk over stretches of the table, one turn for each word. `proofs/Onward` shows that a walk over all of it is
+-- Mend as its code goes: a walk over stretches of the table, one turn for each word. `proofs/MendWalk` shows that a walk over all of it is
 -- the mend of document 01. Of the crate `theory`.
 use Rattle.std.specs.Prelude.{◌≡◌, Bool, cond, ◌&&◌, not, List, ℕ, zero, suc, ◌+◌, eqb, ltb, set}
 use Rattle.theory.specs.Format.{Format, gpi, reads}

@@ -1,14 +1,10 @@
 -- Document 01, "Set, step by step": what a set of one granule of an L1 table does, as events computed from the table; agreement; and the
 -- new granules, said by themselves. Of the crate `theory`.
-use Rattle.std.specs.Prelude.{◌≡◌, true, cond, List, [], ◌∷◌, ◌++◌, map, ℕ, zero, suc, ◌+◌, ◌-◌, ◌<◌, length, set}
+use Rattle.std.specs.Prelude.{◌≡◌, Bool, true, false, cond, Option, None, Some, Result, Ok, Err, List, [], ◌∷◌, ◌++◌, map, ℕ, zero, suc, ◌+◌, ◌-◌, ◌<◌, length, set}
 use Rattle.theory.specs.Format.{Format, gpi, reads}
 use Rattle.theory.specs.Normal.{at, span, base, In}
 use Rattle.theory.specs.Stores.{Store, apply}
 use Rattle.theory.specs.Events.{Event, filled, granule, barrier, dsb_oshst, tlbi, dsb_osh, stores}
-use Rattle.theory.specs.declared.Scan.{Scan}
-use Rattle.theory.specs.declared.Scan.TheVariants.{All, Differs, Invalid}
-use Rattle.theory.specs.declared.Fused.{Fused}
-use Rattle.theory.specs.declared.Fused.TheVariants.{Nowhere, Level, Refused}
 
 -- what a set is asked: which granule of which word is made which GPI; and what its barriers tell, the address as given and the granule's
 -- bytes
@@ -78,32 +74,32 @@ changed F u t q = set (apply t (stores (broken F u t q.word))) q.word (new_word 
 
 -- "A scan stops at the first word that isn't all the new GPI (no match) or is invalid": n words from a. Of an invalid word it tells the
 -- index
-unfoldable pub scan : Format → (ℕ → ℕ) → ℕ → ℕ → ℕ → Scan
-scan F r g a zero = All
-scan F r g a (suc n) = cond (F.valid (r a)) (cond (reads F (r a) g) (scan F r g (suc a) n) Differs) (Invalid a)
+unfoldable pub scan : Format → (ℕ → ℕ) → ℕ → ℕ → ℕ → Result Bool ℕ
+scan F r g a zero = Ok true
+scan F r g a (suc n) = cond (F.valid (r a)) (cond (reads F (r a) g) (scan F r g (suc a) n) (Ok false)) (Err a)
 
 -- how a scan takes what the scans come to further: no range, the largest that matched, or refusal 10 by the invalid word at an index
-abbrev pub on_scan : Scan → Fused → Fused → Fused
-on_scan All more best = more
-on_scan Differs more best = best
-on_scan (Invalid k) more best = Refused k
+abbrev pub on_scan : Result Bool ℕ → Result (Option ℕ) ℕ → Result (Option ℕ) ℕ → Result (Option ℕ) ℕ
+on_scan (Ok true) more best = more
+on_scan (Ok false) more best = best
+on_scan (Err k) more best = Err k
 
 -- "scan the aligned 2 MB, then 32 MB, then 512 MB, each from its lowest word, each only if the one below matched": n levels from l, where
 -- `best` is the one below
-unfoldable pub climb : Format → ℕ → (ℕ → ℕ) → ℕ → ℕ → ℕ → Fused → ℕ → Fused
+unfoldable pub climb : Format → ℕ → (ℕ → ℕ) → ℕ → ℕ → ℕ → Result (Option ℕ) ℕ → ℕ → Result (Option ℕ) ℕ
 climb F u r g i l best zero = best
 climb F u r g i l best (suc n) =
-    let more : Fused = climb F u r g i (suc l) (Level l) n in
+    let more : Result (Option ℕ) ℕ = climb F u r g i (suc l) (Ok (Some l)) n in
     on_scan (scan F r g (base (span u l) i) (span u l)) more best
 
-unfoldable pub fusing : Format → ℕ → List ℕ → Target → Fused
-fusing F u t q = climb F u (at (changed F u t q)) q.gpi q.word 0 Nowhere 3
+unfoldable pub fusing : Format → ℕ → List ℕ → Target → Result (Option ℕ) ℕ
+fusing F u t q = climb F u (at (changed F u t q)) q.gpi q.word 0 (Ok None) 3
 
 -- "the largest matched range is filled upward with its contiguous word"; under refusal 10 nothing is fused
-unfoldable pub fused : Format → ℕ → ℕ → ℕ → Fused → List Event
-fused F u g i Nowhere = []
-fused F u g i (Level l) = fill_event (base (span u l) i) (span u l) (F.contig l g)
-fused F u g i (Refused k) = []
+unfoldable pub fused : Format → ℕ → ℕ → ℕ → Result (Option ℕ) ℕ → List Event
+fused F u g i (Ok None) = []
+fused F u g i (Ok (Some l)) = fill_event (base (span u l) i) (span u l) (F.contig l g)
+fused F u g i (Err k) = []
 
 -- ---- the set
 

@@ -1,5 +1,5 @@
 -- `dump_text::runs_chunk` meets its contract.
-use mathlib.Core.Path.{◌≡◌, ◌∙◌}
+use mathlib.Core.Path.{◌≡◌, ap, ◌∙◌}
 use native.Mathlib.Omega.{arith}
 use Prim.Native.Nat.{ℕ, ◌≤◌, ◌-◌, ◌+◌, ◌^◌}
 use lib.ListN.{length}
@@ -8,6 +8,7 @@ use Rattle.dump_lines.specs.declared.Run.{Run}
 use Rattle.dump_lines.specs.Lines.{line, name}
 use Rattle.dump_lines.proofs.Bytes.{put-length}
 use Rattle.dump_lines.proofs.Lengths.{length-line}
+use Rattle.dump_runs.specs.declared.Opened.{Opened}
 use Rattle.dump_runs.specs.Runs.{total}
 use Rattle.dump_runs.proofs.Near.{pps_most}
 use Rattle.dump_text.specs.Chunks.{run_step}
@@ -20,7 +21,7 @@ fits : (r : Run) (k n m : ℕ) → m ≡ 29 + length (name r.answer) → k ≤ n
 fits r k n m e h i = let l = length-line r in omega arith
 
 pub pow2-end-requires : goal.pow2-end-requires
-pow2-end-requires c = let m = pps_most _ _ c.requires.opened in omega arith
+pow2-end-requires c = let m = pps_most _ _ c.args.t.now.open in omega arith
 
 pub returns-then-out-k : goal.returns-then-out-k
 returns-then-out-k c =
@@ -35,8 +36,8 @@ put_line-k-requires c = fits c.next_run-r.result _ _ _ c.line_len.ensures c.loop
 
 pub overflow_add-next : goal.overflow_add-next
 overflow_add-next c =
-    let m = pps_most _ _ c.requires.opened in
-    let t : total c.args.w ≤ 2 ^ 52 = pow_mono m in
+    let m = pps_most _ _ c.args.t.now.open in
+    let t : total c.args.t.now.widths ≤ 2 ^ 52 = pow_mono m in
     let h = c.next_run-r.ensures.inside in omega arith
 
 pub loop-next-preserved : goal.loop-next-preserved
@@ -57,5 +58,5 @@ loop-next-preserved c =
 
 pub returns : goal.returns
 returns c =
-    let e = c.pow2-end.ensures in
-    c.loop-next.invariant.whole _ _ (chunk_end _ _ _ _ (runs-end _ c.args.w c.loop-next.next (omega arith)))
+    let e = c.pow2-end.ensures ∙ ap (λ (o : Opened). total o.widths) c.t.view_is in
+    c.loop-next.invariant.whole _ _ (chunk_end _ _ _ _ (runs-end _ c.args.t.now.widths c.loop-next.next (omega arith)))

@@ -3,8 +3,8 @@ use mathlib.Core.Path.{◌≡◌}
 use mathlib.Core.List.{List}
 use Prim.Native.Nat.{ℕ, ◌≤◌, ◌<◌, ◌-◌, ◌+◌}
 use lib.ListN.{length}
-use Rattle.resolve.specs.Lent.{lent}
 use Rattle.gpt.specs.Lookup.{lookup_of}
+use Rattle.dump_runs.specs.Opened.{lent_of}
 use Rattle.dump_runs.specs.Runs.{total}
 use Rattle.dump_text.specs.declared.Chunk.{Chunk}
 use Rattle.dump_text.specs.Chunks.{open_steps, Chunked}
@@ -15,9 +15,9 @@ invariant-loop-next l = record {
   filled : l.k ≤ length l.out;
   long : length l.out ≡ length l.initial.out;
   past : 0 < l.next;
-  whole : (o' : List ℕ) (r : Chunk) → Chunked (open_steps (lookup_of (lent l.c l.l0 l.arena l.base.0)) l.w) l.next l.k l.out o' r
-      → Chunked (open_steps (lookup_of (lent l.c l.l0 l.arena l.base.0)) l.w) l.at l.filled l.initial.out o' r;
+  whole : (o' : List ℕ) (r : Chunk) → Chunked (open_steps (lookup_of (lent_of l.t)) l.t.widths) l.next l.k l.out o' r
+      → Chunked (open_steps (lookup_of (lent_of l.t)) l.t.widths) l.at l.filled l.initial.out o' r;
 }
 
 abbrev pub decreases-loop-next : goal.decreases-loop-next
-decreases-loop-next l = total l.w + 1 - l.next
+decreases-loop-next l = total l.t.widths + 1 - l.next

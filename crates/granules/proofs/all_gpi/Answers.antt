@@ -1,19 +1,19 @@
--- `granules::all_gpi` meets its contract. The invariant: what is left says the same as the whole.
-use mathlib.Core.Path.{sym, ◌∙◌}
-use Prim.Native.Nat.{◌%◌}
-use native.Mathlib.Omega.{arith}
-use borrow.Author.Tests.{eq-eqb}
+-- `granules::all_gpi` meets its contract: each call of the test is of the nibble at a place.
+use mathlib.Core.Path.{◌≡◌, refl, ap, ◌∙◌}
+use mathlib.Core.Bool.{true, false}
+use Prim.Native.Nat.{ℕ, ◌*◌, ◌/◌, ◌%◌, ◌^◌}
+use borrow.Author.Rules.{rules}
 use lib.Dec.{eqb}
-use Rattle.granules.proofs.Digits.{walk_end, walk_hit}
+use Rattle.std.proofs.lemmas.Iterator.{cases_from_all, YieldsList-from_range}
+use Rattle.granules.specs.Nibs.{nibs, all}
+use Rattle.granules.proofs.Store.{all-places}
 use Rattle.granules.proofs.all_gpi.Goals as goal
-
-pub loop-n-preserved : goal.loop-n-preserved
-loop-n-preserved c =
-    let l = c.loop-n in
-    let x = c.number-x.result in
-    (omega arith, l.invariant.1 ∙ walk_hit (eqb x) l.n l.v c.loop-n-test.true (eq-eqb x (l.v % 16) (omega arith)))
 
 pub returns : goal.returns
 returns c =
-    let l = c.loop-n in
-    rw (← c.number-x.ensures) (sym (l.invariant.1 ∙ walk_end _ l.n l.v c.loop-n-test.false))
+    let w = c.args.w in
+    let x = c.from-x.result in
+    all-places (eqb x) w c.all.result
+    (cases_from_all _ _ _ (λ (i : ℕ). eqb x (w / 2 ^ (4 * i) % 16) ≡ true) (λ (i : ℕ). eqb x (w / 2 ^ (4 * i) % 16) ≡ false) c.all.ensures.ran
+    (YieldsList-from_range 0 16 16 refl refl) (λ i q k. search rules) (λ i q k. search rules))
+    ∙ ap (λ (n : ℕ). all (eqb n) (nibs 16 w)) c.from-x.ensures

@@ -1,5 +1,5 @@
 -- `granules::set_gpi` meets its contract: what is taken away is the old nibble's share, what is added the new one's.
-use mathlib.Core.Path.{◌∙◌, ap, ◌≡◌}
+use mathlib.Core.Path.{◌∙◌, ap₂, ◌≡◌}
 use Prim.Native.Nat.{ℕ, ◌<◌}
 use native.Mathlib.Omega.{arith}
 use Rattle.gpi.specs.declared.Gpi.{Gpi}
@@ -16,20 +16,20 @@ small g x e = omega (arith, num-lt g)
 pub overflow_sub-result : goal.overflow_sub-result
 overflow_sub-result c =
     let w = c.args.w in
-    let i = c.args.i in
-    omega (arith, taken w i 0 c.ranges.w.fits c.requires (omega arith), nib-le w i c.ranges.w.fits c.requires)
+    let i = c.i.inside.place in
+    omega (arith, taken w i 0 c.ranges.w.fits c.i.invariant (omega arith), nib-le w i c.ranges.w.fits c.i.invariant)
 
 pub overflow_add-result : goal.overflow_add-result
 overflow_add-result c =
     let w = c.args.w in
-    let i = c.args.i in
-    let x = c.number-n.result in
-    let s = small c.args.g x c.number-n.ensures in
-    omega (arith, stored w i x c.ranges.w.fits c.requires s, put-lt w i x c.requires s)
+    let i = c.i.inside.place in
+    let x = c.from-n.result in
+    let s = small c.args.g x c.from-n.ensures in
+    omega (arith, stored w i x c.ranges.w.fits c.i.invariant s, put-lt w i x c.i.invariant s)
 
 pub returns : goal.returns
 returns c =
     let w = c.args.w in
-    let i = c.args.i in
-    let x = c.number-n.result in
-    stored w i x c.ranges.w.fits c.requires (small c.args.g x c.number-n.ensures) ∙ ap (put w i) c.number-n.ensures
+    let i = c.i.inside.place in
+    let x = c.from-n.result in
+    stored w i x c.ranges.w.fits c.i.invariant (small c.args.g x c.from-n.ensures) ∙ ap₂ (put w) c.i.view_is c.from-n.ensures

@@ -1,6 +1,6 @@
--- `mend::table_named` meets its contract: where no place was found, the refusal.
-use mathlib.Core.Path.{sym, ◌∙◌}
+-- `mend::table_named`: the place in a table that was found lies in the arena.
+use Rattle.gpt.proofs.Sites.{sited_at}
 use Rattle.mend.proofs.table_named.Goals as goal
 
-pub returns-in-Refused : goal.returns-in-Refused
-returns-in-Refused c = rw (sym c.resolve.ensures ∙ c.in-Refused.is)
+pub returns-in-Table-clause-sited : goal.returns-in-Table-clause-sited
+returns-in-Table-clause-sited c = sited_at _ _ c.place.ensures c.in_ok-place.was c.in-Table.is

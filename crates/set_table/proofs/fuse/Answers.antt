@@ -1,34 +1,26 @@
 -- `set_table::fuse` meets its contract: a fill of the range that matched, or nothing.
-use mathlib.Core.Path.{refl}
 use Rattle.theory.specs.Set.{fused}
 use Rattle.stores.proofs.Events.{none}
-use Rattle.set_table.proofs.Fuses.{fuse_lies, fuse_fills, fuse_done}
+use Rattle.set_table.proofs.Fuses.{fuse_lies, fuse_room, fuse_done, unfused}
 use Rattle.set_table.proofs.fuse.Goals as goal
 
-pub nonzero_div-index : goal.nonzero_div-index
-nonzero_div-index c = (fuse_lies c.requires.placed c.size_at-size.result c.span-words.ensures).pos
+pub nonzero_div-q : goal.nonzero_div-q
+nonzero_div-q c = (fuse_lies _ _ c.in-Ok-Some.size c.span-words.ensures c.requires.placed).pos
 
-pub fill_descs-c-requires-clause-count_in_bounds : goal.fill_descs-c-requires-clause-count_in_bounds
-fill_descs-c-requires-clause-count_in_bounds c = (fuse_lies c.requires.placed c.size_at-size.result c.span-words.ensures).inside
+pub fill_descs-requires-clause-count_in_bounds : goal.fill_descs-requires-clause-count_in_bounds
+fill_descs-requires-clause-count_in_bounds c = (fuse_lies _ _ c.in-Ok-Some.size c.span-words.ensures c.requires.placed).inside
 
-pub fill_descs-c-requires-clause-room : goal.fill_descs-c-requires-clause-room
-fill_descs-c-requires-clause-room c =
-    (fuse_fills c.requires.placed c.size_at-size.result c.span-words.ensures c.requires.room).1
+pub fill_descs-requires-clause-room : goal.fill_descs-requires-clause-room
+fill_descs-requires-clause-room c = fuse_room c.args.q.now.index _ c.in-Ok-Some.size c.span-words.ensures c.requires.room
 
-pub returns-in-Nowhere : goal.returns-in-Nowhere
+pub returns-in-Ok-None-clause-done : goal.returns-in-Ok-None-clause-done
+returns-in-Ok-None-clause-done c = unfused _ _ _ _ c.in-Ok-None.is (rw c.in-Ok-None.is at c.in-Ok-None.field-0-is)
+
+pub returns-in-Ok-Some-clause-done : goal.returns-in-Ok-Some-clause-done
+returns-in-Ok-Some-clause-done c =
+    fuse_done _ _ c.in-Ok-Some.size c.span-words.ensures c.args.q.now.gpi c.in-Ok-Some.is (rw c.in-Ok-Some.is at c.in-Ok-Some.field-0-is) c.contig-word.ensures
+    c.fill_descs.ensures
+
+pub returns-in-Err-clause-done : goal.returns-in-Err-clause-done
 unfolding fused
-returns-in-Nowhere c = rw c.in-Nowhere.is record { tally = c.args.t; done = none _ _ _ _; answer = refl }
-
-pub returns-in-Level : goal.returns-in-Level
-returns-in-Level c =
-    rw c.in-Level.is
-    record {
-      tally = c.fill_descs-c.result;
-      done = fuse_done _ _ _ c.size_at-size.result c.size_at-size.ensures c.args.q.gpi _ c.span-words.ensures c.contig-word.ensures
-          c.fill_descs-c.ensures;
-      answer = refl;
-    }
-
-pub returns-in-Refused : goal.returns-in-Refused
-unfolding fused
-returns-in-Refused c = rw c.in-Refused.is record { tally = c.args.t; done = none _ _ _ _; answer = refl }
+returns-in-Err-clause-done c = rw c.in-Err.is (none _)

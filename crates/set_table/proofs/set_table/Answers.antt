@@ -1,37 +1,55 @@
 -- `set_table::set_table` meets its contract: an invalid entry changes nothing; a contiguous one is broken up first.
-use mathlib.Core.Path.{refl, sym, ap}
-use Rattle.l1.specs.Arm.{arm, level_of, valid_of, size_of}
+use mathlib.Core.Path.{refl, sym, ap, ◌∙◌}
+use native.Mathlib.Omega.{arith}
+use Rattle.std.proofs.Common.{rules}
+use Rattle.std.specs.Prelude.{Some}
+use Rattle.l1.specs.Arm.{arm, level_of, valid_of}
 use Rattle.l1.proofs.Arm.{arm-laws, level_lt}
 use Rattle.stores.specs.Done.{fresh}
-use Rattle.stores.proofs.Events.{none}
+use Rattle.stores.proofs.Events.{nothing, later, less}
 use Rattle.set_table.specs.Table.{target_of}
-use Rattle.set_table.proofs.Breaks.{grant_room}
-use Rattle.set_table.proofs.Sets.{finish, granules_done, contiguous_is, size_is, gpi-is, bytes-are}
+use Rattle.set_table.proofs.Places.{still}
+use Rattle.set_table.proofs.Breaks.{opened, grant_room}
+use Rattle.set_table.proofs.Sets.{finish, valid_entry, broken_up, as_granules}
 use Rattle.set_table.proofs.set_table.Goals as goal
+use Rattle.set_table.proofs.set_table.Goals.{in-Contiguous, in_default}
+
+pub set_granule-requires-clause-placed : goal.set_granule-requires-clause-placed
+set_granule-requires-clause-placed c =
+    elim c.match-entry.branch [
+      | in-Contiguous w ↦ rw w.j-is (still w.break_up.ensures c.requires.placed)
+      | in_default w ↦ rw w.j-is c.requires.placed
+    ]
 
 pub set_granule-requires-clause-room : goal.set_granule-requires-clause-room
 set_granule-requires-clause-room c =
-    let z = c.in-Contiguous.size in
-    grant_room arm c.args.q.unit (level_of z) (level_lt z) _ _ c.requires.room _ _ c.break_up-t.ensures
+    elim c.match-entry.branch [
+      | in-Contiguous w ↦
+          rw w.j-is
+          (grant_room arm c.args.q.now.unit (level_of w.in-Contiguous.size) (level_lt w.in-Contiguous.size) _ _
+          (opened c.requires.room c.default.ensures refl refl refl) _ _ w.break_up.ensures)
+      | in_default w ↦ rw w.j-is (less _ _ (opened c.requires.room c.default.ensures refl refl refl) (omega arith) (omega arith))
+    ]
 
-pub returns-in-Contiguous : goal.returns-in-Contiguous
-returns-in-Contiguous c =
-    let q = c.args.q in
-    let z = c.in-Contiguous.size in
-    let e = sym c.in-Contiguous.ensures in
-    let w = contiguous_is arm q.unit c.args.table.now (target_of q) _ _ (gpi-is _ _ z e) (size_is _ _ z e) in
-    rw (ap valid_of e)
-    (finish arm arm-laws q.unit c.requires.placed.least (target_of q) c.requires.placed.index
-    (rw (← bytes-are z, w) at c.break_up-t.ensures) c.set_granule.ensures)
+pub returns-in_err-entry : goal.returns-in_err-entry
+returns-in_err-entry c =
+    let e = sym (c.in_err-entry.ensures.value ∙ c.try_from.ensures) in
+    rw (c.from_residual.ensures, ap valid_of e) record { tally = fresh; done = nothing _ _ _ _; answer = refl }
 
-pub returns-in-Granules : goal.returns-in-Granules
-returns-in-Granules c =
-    let q = c.args.q in
-    let e = sym c.in-Granules.ensures in
-    rw (ap valid_of e)
-    (finish arm arm-laws q.unit c.requires.placed.least (target_of q) c.requires.placed.index
-    (granules_done arm q.unit _ (target_of q) _ _ (ap size_of e)) c.set_granule-in-Granules.ensures)
-
-pub returns-in-Invalid : goal.returns-in-Invalid
-returns-in-Invalid c =
-    rw (ap valid_of (sym c.in-Invalid.ensures)) record { tally = fresh; done = none _ _ _ _; answer = refl }
+pub returns : goal.returns
+returns c =
+    let e = sym (c.in_ok-entry.ensures.value ∙ c.try_from.ensures) in
+    let q = c.args.q.now in
+    rw (valid_entry _ c.in_ok-entry.entry e)
+    elim c.match-entry.branch [
+      | in-Contiguous w ↦
+          let d = broken_up q w.in-Contiguous.g w.in-Contiguous.size (e ∙ ap Some w.in-Contiguous.is) w.j-is w.break_up.ensures in
+          let s = later d c.set_granule.ensures.done in
+          finish arm arm-laws q.unit c.requires.placed.least (target_of q) c.requires.placed.index d c.set_granule.ensures.done
+          c.set_granule.ensures.answer c.default.ensures (search rules) (search rules)
+      | in_default w ↦
+          let d = as_granules q c.in_ok-entry.entry e w.in_default.not-Contiguous w.j-is in
+          let s = later d c.set_granule.ensures.done in
+          finish arm arm-laws q.unit c.requires.placed.least (target_of q) c.requires.placed.index d c.set_granule.ensures.done
+          c.set_granule.ensures.answer c.default.ensures (search rules) (search rules)
+    ]

@@ -1,6 +1,0 @@
--- `replay::parts::same` ends: it goes on by one.
-use Rattle.std.proofs.Common.{◌-◌, length}
-use Rattle.replay.proofs.parts.same.Given as goal
-
-abbrev pub decreases-loop-i : goal.decreases-loop-i
-decreases-loop-i l = length l.a - l.i
