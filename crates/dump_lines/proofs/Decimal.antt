@@ -113,7 +113,7 @@ dec-value x = value_digits (suc x) x (omega arith)
 
 -- ---- by the lowest digits
 
-digit_low : (d : ℕ) → d < 10 → 48 + d ≡ digit_of d
+pub digit_low : (d : ℕ) → d < 10 → 48 + d ≡ digit_of d
 unfolding digit_of
 digit_low d h = rw (lt-ltb d 10 h)
 

@@ -12,7 +12,7 @@ use Rattle.gpi.specs.declared.Gpi.{Gpi}
 use Rattle.gpi.specs.declared.Size.{Size}
 use Rattle.gpi.specs.declared.Size.TheVariants.{MB2, MB32, MB512}
 use Rattle.gpi.specs.Gpi.{num}
-use Rattle.theory.specs.Format.{reads}
+use Rattle.theory.specs.Format.{Format, reads}
 use Rattle.theory.specs.Normal.{at, base, span}
 use Rattle.theory.specs.Set.{scan, on_scan, climb}
 use Rattle.l1.specs.L1.{match_at}
@@ -23,13 +23,13 @@ use Rattle.set_table.specs.Inner.{leveled}
 -- ---- the words of a range
 
 -- on where the word at k is the same
-abbrev next : ℕ → Option Bool → Result Bool ℕ → Result Bool ℕ
+abbrev pub next : ℕ → Option Bool → Result Bool ℕ → Result Bool ℕ
 next k (Some true) s = s
 next k (Some false) s = Ok false
 next k None s = Err k
 
 -- a scan of n words from k, by the word at k
-scan-at : (r : ℕ → ℕ) (g : Gpi) (k n : ℕ) → 0 < n → r k < 2 ^ 64 → (m : Option Bool) → m ≡ match_at (r k) g
+pub scan-at : (r : ℕ → ℕ) (g : Gpi) (k n : ℕ) → 0 < n → r k < 2 ^ 64 → (m : Option Bool) → m ≡ match_at (r k) g
     → scan arm r (num g) k n ≡ next k m (scan arm r (num g) (k + 1) (n - 1))
 unfolding scan
 scan-at r g k zero h f m e = absurd (omega arith)
@@ -43,7 +43,7 @@ scan-at r g k (suc n) h f m e =
     go true false s = refl
     go false x s = refl
 
-scan-end : (r : ℕ → ℕ) (g k n : ℕ) → n ≤ 0 → scan arm r g k n ≡ Ok true
+pub scan-end : (r : ℕ → ℕ) (g k n : ℕ) → n ≤ 0 → scan arm r g k n ≡ Ok true
 unfolding scan
 scan-end r g k zero h = refl
 scan-end r g k (suc n) h = absurd (omega arith)
@@ -98,24 +98,26 @@ sized (suc zero) s h = refl
 sized (suc (suc zero)) s h = refl
 sized (suc (suc (suc i))) s h = absurd (omega arith)
 
--- a climb of n levels from l, by the scan of level l
-climb-at : (u : ℕ) (r : ℕ → ℕ) (g x l n : ℕ) (best : Result (Option ℕ) ℕ) → 0 < n
-    → climb arm u r g x l best n
-    ≡ on_scan (scan arm r g (base (span u l) x) (span u l)) (climb arm u r g x (l + 1) (Ok (Some l)) (n - 1)) best
-unfolding climb
-climb-at u r g x l zero best h = absurd (omega arith)
-climb-at u r g x l (suc n) best h = let p : suc n - 1 ≡ n = omega arith in rw (add-one l, p) refl
+module _ (F : Format) (u : ℕ) (r : ℕ → ℕ) (g x : ℕ) where
+  -- a climb of n levels from l, by the scan of level l, which has m words
+  pub climb-at : (l n m : ℕ) (best : Result (Option ℕ) ℕ) (s : Result Bool ℕ) → 0 < n → m ≡ span u l → s ≡ scan F r g (base m x) m
+      → climb F u r g x l best n ≡ on_scan s (climb F u r g x (l + 1) (Ok (Some l)) (n - 1)) best
+  unfolding climb
+  climb-at l zero m best s h e q = absurd (omega arith)
+  climb-at l (suc n) m best s h e q =
+      let p : suc n - 1 ≡ n = omega arith in
+      rw (q, e, add-one l, p) refl
 
-climb-end : (u : ℕ) (r : ℕ → ℕ) (g x l n : ℕ) (best : Result (Option ℕ) ℕ) → n ≤ 0 → climb arm u r g x l best n ≡ best
-unfolding climb
-climb-end u r g x l zero best h = refl
-climb-end u r g x l (suc n) best h = absurd (omega arith)
+  pub climb-end : (l n : ℕ) (best : Result (Option ℕ) ℕ) → n ≤ 0 → climb F u r g x l best n ≡ best
+  unfolding climb
+  climb-end l zero best h = refl
+  climb-end l (suc n) best h = absurd (omega arith)
 
 -- how far the climb has come: the sizes from the i-th on come to the same as all of them
 module _ (t : List ℕ) (g : Gpi) (x u i : ℕ) (best : Option Size)
     (whole : climb arm u (at t) (num g) x 0 (Ok None) 3 ≡ climb arm u (at t) (num g) x i (leveled (Ok best)) (3 - i)) where
   pub climb_ended : 3 ≤ i → leveled (Ok best) ≡ climb arm u (at t) (num g) x 0 (Ok None) 3
-  climb_ended h = sym (whole ∙ climb-end u (at t) (num g) x i (3 - i) (leveled (Ok best)) (omega arith))
+  climb_ended h = sym (whole ∙ climb-end arm u (at t) (num g) x i (3 - i) (leveled (Ok best)) (omega arith))
 
   -- by what the scan of the size's n words comes to
   module _ (s : Size) (l : level_of s ≡ i) (h : i < 3) {n : ℕ} (e : n ≡ span u (level_of s)) where
@@ -124,7 +126,7 @@ module _ (t : List ℕ) (g : Gpi) (x u i : ℕ) (best : Option Size)
         ≡ on_scan y (climb arm u (at t) (num g) x (i + 1) (leveled (Ok (Some s))) (3 - (i + 1))) (leveled (Ok best))
     met_size y q =
         let p : 3 - (i + 1) ≡ 3 - i - 1 = omega arith in
-        rw (q, e, l, p) (whole ∙ climb-at u (at t) (num g) x i (3 - i) (leveled (Ok best)) (omega arith))
+        rw (l, p) (whole ∙ climb-at arm u (at t) (num g) x i (3 - i) n (leveled (Ok best)) y (omega arith) (rw l at e) q)
 
     pub climb_on : {b : Bool} → Ok b ≡ scan arm (at t) (num g) (base n x) n → b ≡ true
         → climb arm u (at t) (num g) x 0 (Ok None) 3 ≡ climb arm u (at t) (num g) x (i + 1) (leveled (Ok (Some s))) (3 - (i + 1))

@@ -133,13 +133,13 @@ valid_entry w Granules e = ap valid_of e
 
 -- a contiguous entry of the Arm format: its size code, its GPI, its bytes
 module _ (w : ℕ) (h : Gpi) (s : Size) (e : l1_of w ≡ Some (Contiguous h s)) where
-  size_is : arm.size w ≡ suc (level_of s)
+  pub size_is : arm.size w ≡ suc (level_of s)
   size_is = ap size_of e ∙ level_num s
 
-  gpi-is : gpi arm w ≡ num h
+  pub gpi-is : gpi arm w ≡ num h
   gpi-is = let low : repeated (num h) % 16 ≡ num h = omega (arith, num-lt h) in ap (λ (x : Option L1Entry). flat_of x w % 16) e ∙ low
 
-bytes-are : (s : Size) → bytes (level_of s) ≡ bytes_of s
+pub bytes-are : (s : Size) → bytes (level_of s) ≡ bytes_of s
 unfolding span
 bytes-are s = elim s as (λ k. bytes (level_of k) ≡ bytes_of k) [ MB2 ↦ refl | MB32 ↦ refl | MB512 ↦ refl ]
 

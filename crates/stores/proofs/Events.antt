@@ -83,7 +83,7 @@ module _ {es : List Event} {j k : Journal} (d : Journaled es j k) where
   pub kept_table : length k.table.now ≡ length j.table.now
   kept_table = ap length d.done.table ∙ length-apply j.table.now (stores es)
 
-  kept_log : length k.log.now ≡ length j.log.now
+  pub kept_log : length k.log.now ≡ length j.log.now
   kept_log = ap length d.done.log ∙ length-logged j.offset j.tally.records es j.log.now
 
   -- of the room for r and n, what these events leave

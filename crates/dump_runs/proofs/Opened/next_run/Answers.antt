@@ -1,5 +1,5 @@
 -- `dump_runs::Opened::next_run` meets its contract.
-use mathlib.Core.Path.{sym, ap, ◌∙◌}
+use mathlib.Core.Path.{◌≡◌, sym, ap, ◌∙◌}
 use native.Mathlib.Omega.{arith}
 use Rattle.dump_runs.specs.declared.Opened.{Opened}
 use Rattle.dump_runs.specs.Runs.{total}
@@ -21,26 +21,26 @@ loop-last-init c =
       runs = start-run _ _ _ _ c.requires.a_bound p;
     }
 
-pub returns-then-ne : goal.returns-then-ne
-returns-then-ne c =
-    let l = c.loop-last.invariant in
-    let e = c.pow2-end.ensures in
-    end_run _ _ _ _ _ l.up (omega arith) l.answer l.runs c.piece_at-next.ensures
-    (differs-true _ _ (sym c.ne.ensures ∙ c.if-ne.true))
-
 pub loop-last-preserved : goal.loop-last-preserved
 loop-last-preserved c =
     let l = c.loop-last.invariant in
     let e = c.pow2-end.ensures in
     let q = c.piece_at-next.ensures in let f = q.from in let i = q.inside in
     let u = l.up in
-    let z = sym (differs-false _ _ (sym c.ne.ensures ∙ c.if-ne.false)) in
+    let z : c.piece_at-first.result.answer ≡ c.piece_at-next.result.answer = sym (differs-false _ _ (sym c.ne.ensures ∙ c.if-ne.false)) in
     record {
       up = omega arith;
       inside = i;
       answer = z ∙ q.answer ∙ sym (q.same _ f (omega arith));
       runs = l.runs ∙ more_run _ _ _ _ _ (omega arith) q (sym z ∙ l.answer);
     }
+
+pub returns-then-ne : goal.returns-then-ne
+returns-then-ne c =
+    let l = c.loop-last.invariant in
+    let e = c.pow2-end.ensures in
+    end_run _ _ _ _ _ l.up (omega arith) l.answer l.runs c.piece_at-next.ensures
+    (differs-true _ _ (sym c.ne.ensures ∙ c.if-ne.true))
 
 pub returns-after-loop-last : goal.returns-after-loop-last
 returns-after-loop-last c =
